@@ -12,7 +12,6 @@ use Rattle.lol_vm.specs.Vms.{Vm, Stands, info_of}
 use Rattle.lol_examples.specs.Reported.{ids_of}
 use Rattle.lol_examples.specs.declared.page.PageTag.{PageTag}
 use Rattle.lol_examples.specs.declared.page.PageTag.TheVariants.{Start, End}
-use Rattle.lol_examples.specs.declared.page.Kept.{Kept}
 
 -- the event that a tag is
 abbrev pub event_of_tag : PageTag → events.Event
@@ -23,10 +22,6 @@ event_of_tag (End name) = events.End name.now
 abbrev pub HasAttributesInside : PageTag → Type 0
 HasAttributesInside (Start name ns aux) = RangesAreInside aux
 HasAttributesInside (End name) = Unit {0}
-
--- an item comes last, or memory was refused; after a refusal nothing is kept
-abbrev pub KeepsItem : {T : Type 0} → Kept T → T → Kept T → Type 0
-KeepsItem old item new = (new.refused ≡ false) → (old.refused ≡ false) × (new.items.items ≡ old.items.items ++ item ∷ [])
 
 -- These ids are those that an event is reported under, after whatever events the machine stands for.
 abbrev pub AreReported : {E : Type 0} → events.Event → Vm E → List ℕ → Type 0

@@ -1,6 +1,6 @@
-//! Callers of the crates below, each with a contract of its own: attributes, names, sets and charges; selectors that are read or refused; a
-//! page that is gone over tag by tag, a link that is its only tag, and a link checker; a whole list of tags; a tag that takes no memory,
-//! and one past the limit.
+//! Callers of the crates below, each with a contract of its own. They use attributes, names, sets and charges; selectors that are read or
+//! refused; a page that is gone over tag by tag, a link that is its only tag, and a link checker. Others use a whole list of tags, a tag
+//! that takes no memory, and one past the limit.
 #![tactic(auto)]
 
 mod attributes;

@@ -4,9 +4,10 @@ ghost use Rattle.std.specs.Prelude.{◌≡◌, [], Bool, true, false, Some, IfOk
 ghost use Rattle.lol_base.specs.StartTags.{RangesAreInside};
 ghost use Rattle.lol_memory.specs.Limiter.{Limiter};
 ghost use Rattle.lol_program.specs.Paths.{Selectors};
-ghost use Rattle.lol_examples.specs.Pages.{AreReported, HasAttributesInside, IsTold, KeepsItem, StandsForMore, event_of_tag};
+ghost use Rattle.lol_examples.specs.Pages.{AreReported, HasAttributesInside, IsTold, StandsForMore, event_of_tag};
 ghost use Rattle.lol_examples.specs.Reported.{reported_ids};
 ghost use Rattle.lol_vm.specs.Answers.{document};
+ghost use Rattle.lol_vm.specs.Collecting.{Collects};
 ghost use Rattle.lol_vm.specs.Events.{Start, End};
 ghost use Rattle.lol_vm.specs.Premises.{ForEvents, ForHandedOf};
 ghost use Rattle.lol_vm.specs.Views.{selectors, tag_of};
@@ -16,7 +17,7 @@ use lol_base::{AuxStartTagInfo, LocalName, Namespace};
 use lol_memory::{MatchId, MatchInfo, SharedMemoryLimiter};
 use lol_program::Ast;
 use lol_vm::vm_laws::standing_has_open;
-use lol_vm::{ElementValue, SelectorMatchingVm, VmError};
+use lol_vm::{Collected, ElementValue, SelectorMatchingVm, VmError};
 use std::alloc::{AllocError, Global};
 
 /// How many bytes an open element is charged for.
@@ -38,33 +39,6 @@ pub enum PageTag<'t> {
 /// A tag was refused: its element can't be charged, its parent has too many children, or memory was refused.
 #[derive(Debug, Clone, Copy, PartialEq, Eq)]
 pub struct Refused;
-
-/// What a handler was called with, up to the first that memory was refused for.
-#[derive(Drop)]
-pub(crate) struct Kept<T> {
-    pub items: Vec<T>,
-    pub refused: bool,
-}
-
-impl<T: Drop> Kept<T> {
-    fn new(alloc: Global) -> Self
-        ensures items { result.items.items ≡ [] }
-        ensures refused { result.refused ≡ false }
-    {
-        Kept {
-            items: Vec::new(alloc),
-            refused: false,
-        }
-    }
-
-    fn keep(&mut self, item: T)
-        ensures { KeepsItem self.old item self.new }
-    {
-        if !self.refused && self.items.push(item).is_err() {
-            self.refused = true;
-        }
-    }
-}
 
 /// The ids that the start tags of a page are reported under, in order.
 ///
@@ -151,9 +125,9 @@ pub fn start_tag(
     ensures stands { OnOk result (StandsForMore (Start (tag_of name.now ns aux_info.entry true)) vm.old vm.new) }
     ensures charges { ChargesSlots vm.old vm.new limiter.old limiter.new }
 {
-    let mut kept = Kept::new(alloc);
+    let mut kept = Collected::new(alloc);
     let mut handler = |info: MatchInfo|
-        ensures { KeepsItem kept.entry info.match_id kept.exit }
+        ensures { Collects kept.entry info.match_id kept.exit }
     {
         kept.keep(info.match_id);
     };
@@ -165,7 +139,7 @@ pub fn start_tag(
         aux_info,
         &mut handler,
     )?;
-    let Kept { items, refused } = kept;
+    let Collected { items, refused } = kept;
     if refused {
         return Err(Refused);
     }
@@ -213,14 +187,14 @@ pub fn end_tag(
     ensures charges { (limiter : Limiter) → ChargesSlots vm.old vm.new limiter limiter }
 {
     standing_has_open::<ElementValue<()>>();
-    let mut kept = Kept::new(alloc);
+    let mut kept = Collected::new(alloc);
     let mut handler = |element: ElementValue<()>|
-        ensures { KeepsItem kept.entry element kept.exit }
+        ensures { Collects kept.entry element kept.exit }
     {
         kept.keep(element);
     };
     vm.exec_for_end_tag(LocalName::new(name), &mut handler);
-    let Kept { items, refused } = kept;
+    let Collected { items, refused } = kept;
     if refused {
         return Err(AllocError);
     }

@@ -21,7 +21,6 @@ use Rattle.lol_matcher.specs.Refusing.{allowance, refusal_after}
 use Rattle.lol_matcher.specs.Told.{History, elements_of, heard}
 use Rattle.lol_matcher.specs.declared.error.MatcherError.{MatcherError}
 use Rattle.lol_matcher.specs.declared.error.MatcherError.TheVariants.{MemoryLimitExceeded, Memory, CounterFull, Failed, NotAsked, OutsideInput}
-use Rattle.lol_matcher.specs.declared.matches.Matches.{Matches}
 use Rattle.lol_matcher.specs.declared.tags.Answered.{Answered}
 use Rattle.lol_matcher.specs.declared.tags.Finished as finished
 use Rattle.lol_matcher.specs.declared.tags.Finished.TheVariants as finishes
@@ -29,10 +28,6 @@ use Rattle.lol_matcher.specs.declared.tags.Answered.TheVariants.{Reported, Unrep
 
 abbrev pub ids_of : {T : Type 0} → Kept T → Ids
 ids_of element = element.matched_ids
-
--- an item comes last, or memory was refused; after a refusal nothing is kept
-abbrev pub KeepsItem : Matches → MatchInfo → Matches → Type 0
-KeepsItem old item new = (new.refused ≡ false) → (old.refused ≡ false) × (new.items.items ≡ old.items.items ++ item ∷ [])
 
 -- a limiter whose usage is a machine's charge
 abbrev pub IsCharged : {E : Type 0} → Vm E → Limiter → Type 0
@@ -160,7 +155,7 @@ Waits s esi events None vm (Some request) = ⊥
 Waits s esi events (Some asked) vm None = ⊥
 Waits s esi events (Some asked) vm (Some request) = (tag : StartTag) → tag.name ≡ asked.0 → tag.namespace ≡ asked.1 → IsPending ids_of s esi events tag vm request
 
--- What holds between a matcher's parts: the limiter is charged for the machine alone, which has the open elements; and until a tag is
+-- What holds between a matcher's parts: the limiter is charged for the machine alone, which has the open elements. Until a tag is
 -- refused the machine runs over what was heard, with a request where a tag waits, and these elements are open.
 pub record Keeps {T : Type 0} (history : History) (failed : Bool) (vm : Vm (Kept T)) (request : Option (AuxStartTagInfoRequest (Kept T))) (limiter : Limiter) : Type 0 where
   pub charged : IsCharged vm limiter

@@ -19,9 +19,9 @@ pub record Told : Type 0 where
   pub events : List Event
   pub asked : Option (List ℕ × Namespace)
 
--- A matcher: what it was told, the most bytes that it may charge, the bytes that an element is charged for, whether a tag was refused,
--- what the last start tag was reported under, how many nodes were tried for it, and whether the last tag opened an element; the open
--- elements, the innermost first, and what is kept of them, the outermost first: ids, and a value of the caller's, if one was given.
+-- A matcher: what it was told, the most bytes that it may charge, the bytes that an element is charged for, and whether a tag was
+-- refused. Of the last tag: what a start tag was reported under, how many nodes were tried for it, and whether an element was opened.
+-- The open elements, the innermost first, and what is kept of them, the outermost first: ids, and a value of the caller's, if one was given.
 pub record Matching (T : Type 0) : Type 0 where
   pub told : Told
   pub max_memory : ℕ

@@ -13,7 +13,7 @@ pub enum AddError {
         location: ErrorLocation,
     },
 
-    /// Memory was refused.
+    /// An allocation failed.
     #[error("out of memory")]
     Memory,
 }
@@ -25,7 +25,7 @@ pub enum MatcherError {
     #[error("the memory limit would have been passed: too many elements are open at a time")]
     MemoryLimitExceeded,
 
-    /// Memory was refused.
+    /// An allocation failed.
     #[error("out of memory")]
     Memory,
 

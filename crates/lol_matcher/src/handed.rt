@@ -2,19 +2,19 @@
 
 ghost use Rattle.std.specs.Prelude.{◌≡◌, OnErr, IfOk, IfErr};
 ghost use Rattle.lol_base.specs.StartTags.{RangesAreInside};
-ghost use Rattle.lol_matcher.specs.Keeping.{ForHandedTag, ForTag, IsCharged, IsHanded, KeepsItem, allowed};
+ghost use Rattle.lol_matcher.specs.Keeping.{ForHandedTag, ForTag, IsCharged, IsHanded, allowed};
 ghost use Rattle.lol_matcher.specs.Refusing.{IsRefusedFor, refusal_after};
 ghost use Rattle.lol_vm.specs.Answers.{document};
+ghost use Rattle.lol_vm.specs.Collecting.{Collects};
 ghost use Rattle.lol_vm.specs.FreeTags.{AreFlat};
 ghost use Rattle.lol_vm.specs.Vms.{HasOpen, IsTriedAtMost, data_in, slot_bytes, tries_in, NeedsRest};
 
 use crate::error::MatcherError;
 use crate::laws::run_laws;
-use crate::matches::Matches;
 use crate::tags::{Finished, Kept, clear_opened};
 use lol_base::{AuxStartTagInfo, LocalName, Namespace};
 use lol_memory::{MatchInfo, SharedMemoryLimiter};
-use lol_vm::{SelectorMatchingVm, StartTagError};
+use lol_vm::{Collected, SelectorMatchingVm, StartTagError};
 
 /// Tells the machine of a start tag whose attributes are at hand, and keeps what it is reported under.
 pub(crate) fn hand_tag<T: Drop>(
@@ -23,7 +23,7 @@ pub(crate) fn hand_tag<T: Drop>(
     name: &[u8],
     ns: Namespace,
     aux_info: AuxStartTagInfo<'_>,
-    matches: &mut Matches,
+    matches: &mut Collected<MatchInfo>,
 ) -> Result<Finished, MatcherError>
     requires { RangesAreInside aux_info }
     ensures told { IfOk result (λ finished.
@@ -47,7 +47,7 @@ pub(crate) fn hand_tag<T: Drop>(
     matches.clear();
     let open_before = vm.open_elements();
     let mut handler = |info: MatchInfo|
-        ensures { KeepsItem matches.entry.now info matches.exit.now }
+        ensures { Collects matches.entry.now info matches.exit.now }
     {
         matches.keep(info);
     };

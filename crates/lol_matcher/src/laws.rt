@@ -11,8 +11,8 @@ use lol_vm::vm_laws::{
     standing_has_open,
 };
 
-/// A matcher that is told of each tag of a list, and of the attributes of a start tag where it asks for them, answers what a run over
-/// that list does (`match_events` of lol_vm), and the same tag is refused first.
+/// A matcher that is told of each tag of a list, and of the attributes of a start tag if it asks for them, answers as a run over that list
+/// (`match_events` of lol_vm). The same tag is refused first.
 pub fn calls_answer_alike()
     ensures alike { AskedRunsAnswerAlike }
     ensures goes_on { ToldGoesOn }

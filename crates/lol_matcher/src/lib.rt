@@ -6,7 +6,6 @@ mod error;
 mod handed;
 pub mod laws;
 mod matcher;
-mod matches;
 mod past;
 mod reading;
 mod tags;

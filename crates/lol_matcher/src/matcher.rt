@@ -4,7 +4,6 @@ use crate::builder::MatcherBuilder;
 use crate::error::MatcherError;
 use crate::handed::hand_tag;
 use crate::laws::run_laws;
-use crate::matches::Matches;
 use crate::past::{Note, Past};
 use crate::tags::{
     Answered, Finished, Kept, drop_request, end_tag, finish_tag, replace_value, start_tag,
@@ -13,7 +12,7 @@ use lol_base::{AuxStartTagInfo, Namespace};
 use lol_memory::{MatchInfo, SharedMemoryLimiter};
 use lol_program::{Ast, Tries};
 use lol_stack::ElementValue;
-use lol_vm::{AuxStartTagInfoRequest, SelectorMatchingVm};
+use lol_vm::{AuxStartTagInfoRequest, Collected, SelectorMatchingVm};
 use std::alloc::{AllocError, Global};
 use std::marker::Model;
 
@@ -33,7 +32,7 @@ pub struct Matcher<T = ()> {
     vm: SelectorMatchingVm<Kept<T>>,
     limiter: SharedMemoryLimiter,
     request: Option<AuxStartTagInfoRequest<Kept<T>>>,
-    matches: Matches,
+    matches: Collected<MatchInfo>,
     opened: bool,
     failed: bool,
     past: Past,
@@ -135,7 +134,7 @@ impl<T: Drop> Matcher<T> {
             vm,
             limiter: SharedMemoryLimiter::new(max_memory),
             request: None,
-            matches: Matches::new(alloc),
+            matches: Collected::new(alloc),
             opened: false,
             failed: false,
             past,

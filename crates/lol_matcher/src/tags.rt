@@ -6,20 +6,20 @@ ghost use Rattle.lol_instructions.specs.Tests.{Element};
 ghost use Rattle.lol_memory.specs.Limiter.{Limiter};
 ghost use Rattle.lol_program.specs.Paths.{Selectors};
 ghost use Rattle.lol_stack.specs.Calls.{IsCalledAtEach};
-ghost use Rattle.lol_matcher.specs.Keeping.{ClearsOpened, ForRequest, ForTag, KeepsItem, KeepsOpen, KeepsRunning, Leaves, Runs, Tells, IsFinished, IsCharged, allowed, ids_of};
+ghost use Rattle.lol_matcher.specs.Keeping.{ClearsOpened, ForRequest, ForTag, KeepsOpen, KeepsRunning, Leaves, Runs, Tells, IsFinished, IsCharged, allowed, ids_of};
 ghost use Rattle.lol_matcher.specs.Answering.{last_value, with_value};
 ghost use Rattle.lol_matcher.specs.Refusing.{IsRefusedFor, refusal_after};
+ghost use Rattle.lol_vm.specs.Collecting.{Collects};
 ghost use Rattle.lol_vm.specs.Events.{Event, End, has_content};
 ghost use Rattle.lol_vm.specs.FreeTags.{AreFlat, RunsWithoutMemory};
 ghost use Rattle.lol_vm.specs.Vms.{HasOpen, IsPending, IsTriedAtMost, data_in, open_after, slot_bytes, tries_in, NeedsRest};
 
 use crate::error::MatcherError;
 use crate::laws::{data_laws, run_laws};
-use crate::matches::Matches;
 use lol_base::{AuxStartTagInfo, LocalName, Namespace};
 use lol_memory::{MatchInfo, PushError, SharedMemoryLimiter};
 use lol_stack::ElementValue;
-use lol_vm::{AuxStartTagInfoRequest, SelectorMatchingVm, VmError};
+use lol_vm::{AuxStartTagInfoRequest, Collected, SelectorMatchingVm, VmError};
 use std::mem;
 
 /// What is kept of an open element: the ids that it was reported under, and a value of the caller's, if one was given.
@@ -41,7 +41,7 @@ pub(crate) fn start_tag<T: Drop>(
     limiter: &mut SharedMemoryLimiter,
     name: &[u8],
     ns: Namespace,
-    matches: &mut Matches,
+    matches: &mut Collected<MatchInfo>,
 ) -> Result<Answered<T>, MatcherError>
     ensures told { IfOk result (λ answered. ForTag vm.old limiter.old name.now ns (λ s esi events tag.
         Tells s esi events tag answered matches.new.items.items (allowed vm.old limiter.old) vm.new limiter.new)) }
@@ -62,7 +62,7 @@ pub(crate) fn start_tag<T: Drop>(
     matches.clear();
     let open_before = vm.open_elements();
     let mut handler = |info: MatchInfo|
-        ensures { KeepsItem matches.entry.now info matches.exit.now }
+        ensures { Collects matches.entry.now info matches.exit.now }
     {
         matches.keep(info);
     };
@@ -97,7 +97,7 @@ pub(crate) fn finish_tag<T: Drop>(
     limiter: &mut SharedMemoryLimiter,
     request: AuxStartTagInfoRequest<Kept<T>>,
     aux_info: AuxStartTagInfo<'_>,
-    matches: &mut Matches,
+    matches: &mut Collected<MatchInfo>,
 ) -> Result<Finished, MatcherError>
     requires { RangesAreInside aux_info }
     ensures told { IfOk result (λ finished. ForRequest vm.old limiter.old request aux_info.entry (λ s esi events tag.
@@ -118,7 +118,7 @@ pub(crate) fn finish_tag<T: Drop>(
     matches.clear();
     let open_before = vm.open_elements();
     let mut handler = |info: MatchInfo|
-        ensures { KeepsItem matches.entry.now info matches.exit.now }
+        ensures { Collects matches.entry.now info matches.exit.now }
     {
         matches.keep(info);
     };

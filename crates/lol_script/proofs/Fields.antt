@@ -42,12 +42,12 @@ split_some xs n h = parts_some is_tab xs n h
 later : (p : ℕ → Bool) (xs : List ℕ) (n k : ℕ) → n ≤ k → p (get_or (drop n xs) (k - n) 0) ≡ p (get_or xs k 0)
 later p xs n k past = ap p (get_or-drop n xs (k - n) 0 ∙ ap (λ i. get_or xs i 0) (let same : n + (k - n) ≡ k = omega (arith, past) in same))
 
--- the first place that a search of bytes finds
-pub first_place : (p : ℕ → Bool) (xs : List ℕ) (found : Option ℕ) → IsFirstByte p xs found → found ≡ position p xs
-first_place p xs None h =
+-- the first offset that a search of bytes finds
+pub first_offset : (p : ℕ → Bool) (xs : List ℕ) (found : Option ℕ) → IsFirstByte p xs found → found ≡ position p xs
+first_offset p xs None h =
     let at : position_or_len p xs ≡ length xs = position_or_len_is p xs (length xs) 0 (omega arith) (λ k below. not_true _ (h k (omega arith) below)) (λ below. absurd (omega (arith, below))) in
     grind (arith, nat_tests, at)
-first_place p xs (Some n) h =
+first_offset p xs (Some n) h =
     let at : position_or_len p xs ≡ n = position_or_len_is p xs n 0 (omega (arith, h.0.high)) (λ k below. not_true _ (h.0.before k (omega arith) below)) (λ below. h.1) in
     grind (arith, nat_tests, at, h.0.high)
 
@@ -104,16 +104,16 @@ none_of_kind kind rest limit rows select start drops end =
     neither false false true = refl
     neither false false false = refl
 
--- the first place that a search finds after n bytes that don't pass
+-- the first offset that a search finds after n bytes that don't pass
 pub far_first : (p : ℕ → Bool) (xs : List ℕ) (n : ℕ) (found : Option ℕ) → n ≤ length xs → Nowhere (Passes p xs) 0 n → IsFirstByte p (drop n xs) found
-    → option_map (λ place. n + place) found ≡ position p xs
+    → option_map (λ offset. n + offset) found ≡ position p xs
 far_first p xs n None within near far =
-    first_place p xs None (λ k low high passes. elim (dec_le n k) [
+    first_offset p xs None (λ k low high passes. elim (dec_le n k) [
       | yes past ↦ far (k - n) (omega arith) (omega (arith, past, high, length-drop n xs)) (later p xs n k past ∙ passes)
       | no short ↦ near k low (lt_of_not-le short) passes
     ])
-far_first p xs n (Some place) within near far =
-    first_place p xs (Some (n + place)) (
+far_first p xs n (Some offset) within near far =
+    first_offset p xs (Some (n + offset)) (
       record {
         low = omega arith;
         high = omega (arith, far.0.high, length-drop n xs);
@@ -122,7 +122,7 @@ far_first p xs n (Some place) within near far =
           | no short ↦ near k low (lt_of_not-le short) passes
         ];
       },
-      ap p (sym (get_or-drop n xs place 0)) ∙ far.1,
+      ap p (sym (get_or-drop n xs offset 0)) ∙ far.1,
     )
 
 -- a line with a tab is its first field, the tab and the rest

@@ -10,7 +10,7 @@ use Rattle.std.proofs.lemmas.List.Sums.{fails_before_first}
 use Rattle.lol_script.specs.ReadLines.{cut_at, is_line_feed, later_lines, next_line}
 use Rattle.lol_script.proofs.Fields.{pos_in, pos_at, parts_none, parts_some, within_position}
 
--- 1. The first place, in lists that are joined
+-- 1. The first offset, in lists that are joined
 
 module _ (p : ℕ → Bool) where
   first_in : (xs ys : List ℕ) → position_or_len p xs < length xs → position_or_len p (xs ++ ys) ≡ position_or_len p xs
@@ -31,7 +31,7 @@ module _ (p : ℕ → Bool) where
       by_test true later none = cc
       by_test false later none = let rest = later none in omega (arith, rest)
 
-  -- the place stays where more comes
+  -- the offset stays where more comes
   pub position_in : (xs ys : List ℕ) (n : ℕ) → position p xs ≡ Some n → position p (xs ++ ys) ≡ Some n
   position_in xs ys n found =
       let at = pos_at (position_or_len p xs) (length xs) n found in
@@ -81,25 +81,25 @@ found_after old more new shown n found none appended same size is =
 
 -- the next line is the last exactly where no LF is found
 pub last_without : (number : ℕ) (bytes : List ℕ) → (next_line number bytes).is_last ≡ true → position is_line_feed bytes ≡ None
-last_without number bytes last = by_place (position is_line_feed bytes) last
+last_without number bytes last = by_offset (position is_line_feed bytes) last
   where
-    by_place : (place : Option ℕ) → (cut_at number bytes place).is_last ≡ true → place ≡ None
-    by_place (Some n) last = cc
-    by_place None last = refl
+    by_offset : (offset : Option ℕ) → (cut_at number bytes offset).is_last ≡ true → offset ≡ None
+    by_offset (Some n) last = cc
+    by_offset None last = refl
 
--- all of a list from a place on
+-- all of a list from a offset on
 pub tail_of : (bytes shown : List ℕ) (n : ℕ) → shown ≡ bytes → take (length shown - n) (drop n shown) ≡ drop n bytes
 tail_of bytes shown n same = take_all (length shown - n) (drop n shown) (let short = length-drop n shown in omega (arith, short)) ∙ ap (drop n) same
 
 -- whatever comes later, the next line is the first, and then come those after it
 pub next_split : (number : ℕ) (bytes later : List ℕ) → ((next_line number bytes).is_last ≡ true → later ≡ [])
     → slice_split is_line_feed (bytes ++ later) ≡ (next_line number bytes).line ∷ later_lines (next_line number bytes) later
-next_split number bytes later last = by_place (position is_line_feed bytes) refl last
+next_split number bytes later last = by_offset (position is_line_feed bytes) refl last
   where
-    by_place : (place : Option ℕ) → position is_line_feed bytes ≡ place → ((cut_at number bytes place).is_last ≡ true → later ≡ [])
-        → slice_split is_line_feed (bytes ++ later) ≡ (cut_at number bytes place).line ∷ later_lines (cut_at number bytes place) later
-    by_place (Some n) found last =
+    by_offset : (offset : Option ℕ) → position is_line_feed bytes ≡ offset → ((cut_at number bytes offset).is_last ≡ true → later ≡ [])
+        → slice_split is_line_feed (bytes ++ later) ≡ (cut_at number bytes offset).line ∷ later_lines (cut_at number bytes offset) later
+    by_offset (Some n) found last =
         parts_some is_line_feed (bytes ++ later) n (position_in is_line_feed bytes later n found)
         ∙ (λ i. take-append-le n bytes later (omega (arith, within_position is_line_feed bytes n found)) i ∷ slice_split is_line_feed (drop-append-le (n + 1) bytes later (omega (arith, within_position is_line_feed bytes n found)) i))
-    by_place None none last =
+    by_offset None none last =
         ap (slice_split is_line_feed) (ap (λ (rest : List ℕ). bytes ++ rest) (last refl) ∙ append-nil bytes) ∙ parts_none is_line_feed bytes none

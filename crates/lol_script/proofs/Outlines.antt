@@ -44,14 +44,14 @@ module _ (text : List ℕ) (start end : ℕ) (ordered : start ≤ end) where
 
 module _ (text : List ℕ) (outlines : List AttributeOutline) (outline : AttributeOutline) (start : ℕ) where
   -- the outline of a field before a tab
-  pub attributes_more : (place : ℕ) → position is_tab (drop start text) ≡ Some place → attribute_of text outline ≡ attribute_at (slice_range text start (start + place))
-      → map (attribute_of text) (outlines ++ outline ∷ []) ++ map attribute_at (slice_split is_tab (drop (start + (place + 1)) text)) ≡ map (attribute_of text) outlines ++ map attribute_at (slice_split is_tab (drop start text))
-  attributes_more place h is =
+  pub attributes_more : (offset : ℕ) → position is_tab (drop start text) ≡ Some offset → attribute_of text outline ≡ attribute_at (slice_range text start (start + offset))
+      → map (attribute_of text) (outlines ++ outline ∷ []) ++ map attribute_at (slice_split is_tab (drop (start + (offset + 1)) text)) ≡ map (attribute_of text) outlines ++ map attribute_at (slice_split is_tab (drop start text))
+  attributes_more offset h is =
       let before = map (attribute_of text) outlines in
-      let after = map attribute_at (slice_split is_tab (drop (start + (place + 1)) text)) in
-      let field : slice_range text start (start + place) ≡ take place (drop start text) = ap (λ k. take k (drop start text)) (omega arith) in
-      let split : slice_split is_tab (drop start text) ≡ take place (drop start text) ∷ slice_split is_tab (drop (start + (place + 1)) text) =
-      split_some (drop start text) place h ∙ ap (λ rest. take place (drop start text) ∷ slice_split is_tab rest) (drop-drop (place + 1) start text) in
+      let after = map attribute_at (slice_split is_tab (drop (start + (offset + 1)) text)) in
+      let field : slice_range text start (start + offset) ≡ take offset (drop start text) = ap (λ k. take k (drop start text)) (omega arith) in
+      let split : slice_split is_tab (drop start text) ≡ take offset (drop start text) ∷ slice_split is_tab (drop (start + (offset + 1)) text) =
+      split_some (drop start text) offset h ∙ ap (λ rest. take offset (drop start text) ∷ slice_split is_tab rest) (drop-drop (offset + 1) start text) in
       ap (λ (attributes : List Attribute). attributes ++ after) (map_push (attribute_of text) outlines outline)
       ∙ (append_assoc before (attribute_of text outline ∷ []) after
       ∙ ap (λ (attributes : List Attribute). before ++ attributes) (ap (λ (a : Attribute). a ∷ after) (is ∙ ap attribute_at field) ∙ sym (ap (map attribute_at) split)))
@@ -73,12 +73,12 @@ both_named false first one rest same = refl
 
 module _ (text : List ℕ) (start : ℕ) (named first : Bool) where
   -- whether the fields up to a tab and after it are named
-  pub names_more : (place : ℕ) → position is_tab (drop start text) ≡ Some place → first ≡ is_named (attribute_at (slice_range text start (start + place)))
-      → ((named && first) && are_named (slice_split is_tab (drop (start + (place + 1)) text))) ≡ (named && are_named (slice_split is_tab (drop start text)))
-  names_more place h is =
-      let field : slice_range text start (start + place) ≡ take place (drop start text) = ap (λ k. take k (drop start text)) (omega arith) in
-      let split : slice_split is_tab (drop start text) ≡ take place (drop start text) ∷ slice_split is_tab (drop (start + (place + 1)) text) =
-      split_some (drop start text) place h ∙ ap (λ rest. take place (drop start text) ∷ slice_split is_tab rest) (drop-drop (place + 1) start text) in
+  pub names_more : (offset : ℕ) → position is_tab (drop start text) ≡ Some offset → first ≡ is_named (attribute_at (slice_range text start (start + offset)))
+      → ((named && first) && are_named (slice_split is_tab (drop (start + (offset + 1)) text))) ≡ (named && are_named (slice_split is_tab (drop start text)))
+  names_more offset h is =
+      let field : slice_range text start (start + offset) ≡ take offset (drop start text) = ap (λ k. take k (drop start text)) (omega arith) in
+      let split : slice_split is_tab (drop start text) ≡ take offset (drop start text) ∷ slice_split is_tab (drop (start + (offset + 1)) text) =
+      split_some (drop start text) offset h ∙ ap (λ rest. take offset (drop start text) ∷ slice_split is_tab rest) (drop-drop (offset + 1) start text) in
       both_named named first _ _ (is ∙ ap (λ f. is_named (attribute_at f)) field) ∙ ap (λ fields. named && are_named fields) (sym split)
 
   -- and whether the last field is

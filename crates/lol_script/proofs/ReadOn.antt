@@ -59,7 +59,7 @@ module _ {D : Type 0} (remaining : D → Option (List ℕ)) (start : Counted D) 
       all : List ℕ
       all = before.unread ++ goes.0
 
-      number_is : (place : Option ℕ) → (cut_at (before.number + 1) all place).number ≡ before.number + 1
+      number_is : (offset : Option ℕ) → (cut_at (before.number + 1) all offset).number ≡ before.number + 1
       number_is (Some n) = refl
       number_is None = refl
 

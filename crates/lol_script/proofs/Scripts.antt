@@ -68,9 +68,9 @@ is_line_feed b = b == 10
 
 module _ (number : ℕ) (s : Script) (rest : List ℕ) where
   -- the next line, and then those after it
-  pub line_next : (place : ℕ) → position is_line_feed rest ≡ Some place
-      → read_lines number s (slice_split is_line_feed rest) ≡ and_then (with_bytes number s (take place rest)) (λ t. read_lines (number + 1) t (slice_split is_line_feed (drop (place + 1) rest)))
-  line_next place found = ap (read_lines number s) (parts_some is_line_feed rest place found)
+  pub line_next : (offset : ℕ) → position is_line_feed rest ≡ Some offset
+      → read_lines number s (slice_split is_line_feed rest) ≡ and_then (with_bytes number s (take offset rest)) (λ t. read_lines (number + 1) t (slice_split is_line_feed (drop (offset + 1) rest)))
+  line_next offset found = ap (read_lines number s) (parts_some is_line_feed rest offset found)
 
   -- the last line
   pub line_last : position is_line_feed rest ≡ None → read_lines number s (slice_split is_line_feed rest) ≡ and_then (with_bytes number s rest) (λ t. Ok t)

@@ -23,6 +23,7 @@ use Rattle.lol_vm.specs.Follows.{StartedElement}
 use Rattle.lol_vm.specs.Vms.{Vm, data_in, tries_in}
 use Rattle.lol_vm.specs.declared.event_run.EventRun.{EventRun}
 use Rattle.lol_vm.specs.declared.events.RunCause.{RunCause}
+use Rattle.lol_vm.specs.declared.events.StartOutcome.TheVariants.{Reported}
 use Rattle.lol_script.specs.Answering.{Answers, AreTold, HasRun, IsCauseOf, IsMadeReady, IsPushed, IsStarted, IsWritten, has_ended, lines_told}
 use Rattle.lol_script.specs.Explaining.{Explains, IsAnsweredBy, IsDroppedIn, IsRunThrough, Tells, limiter_of, lines_by, with_reasons}
 use Rattle.lol_script.specs.FieldLists.{list_text, match_field, started_by, started_text, tries_shown, was_refused}
@@ -207,7 +208,7 @@ module _ (law : NodesDecideTheRest) (ready : ScriptRun) (s : Script) (tag : Star
 
   -- it is reported, and its reasons are told if they are shown
   pub told_more : (r : EventRun) (l : Limiter) (asked : Bool) (matched fields : FieldList) (reasons : Vec Reason) (text : Vec ℕ) → KnowsAround (machine_of ready.run) ready.answering
-      → ((selectors : Selectors) → IsRunThrough selectors s ready.run s.events ready.limiter → IsStarted selectors s.esi 64 (limiter_of s) r s.events tag l (Some asked) matched)
+      → ((selectors : Selectors) → IsRunThrough selectors s ready.run s.events ready.limiter → IsStarted selectors s.esi 64 (limiter_of s) r s.events tag l (Reported asked) matched)
       → IsPushed asked ready.answering (record ready { run = r; limiter = l; fields = matched }) (after_tag r l fields reasons text)
       → Answers (after_tag r l fields reasons text) (with_event s (Start tag))
   told_more r l asked matched fields reasons text knows starts pushed =

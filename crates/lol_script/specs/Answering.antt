@@ -10,7 +10,7 @@ use Rattle.lol_memory.specs.declared.match_info.MatchInfo.{MatchInfo}
 use Rattle.lol_program.specs.Paths.{Selectors}
 use Rattle.lol_vm.specs.Answers.{answer, document}
 use Rattle.lol_vm.specs.Documents.{closed, empty}
-use Rattle.lol_vm.specs.EventRuns.{IsRunOf, answer_taken, machine_of}
+use Rattle.lol_vm.specs.EventRuns.{IsRunOf, answer_with, machine_of}
 use Rattle.lol_vm.specs.Events.{Event, Start, End}
 use Rattle.lol_vm.specs.Refusals.{Cause, Limit, Counter, refused}
 use Rattle.lol_vm.specs.RunRefusals.{allowance_of}
@@ -20,6 +20,7 @@ use Rattle.lol_vm.specs.Vms.{Vm, data_in, tries_in}
 use Rattle.lol_vm.specs.declared.event_run.EventRun.{EventRun}
 use Rattle.lol_vm.specs.declared.events.RunCause.{RunCause}
 use Rattle.lol_vm.specs.declared.events.RunCause.TheVariants.{MemoryLimitExceeded, CounterFull, Memory}
+use Rattle.lol_vm.specs.declared.events.StartOutcome.{StartOutcome}
 use Rattle.lol_script.specs.Devices.{ReadsToEnd}
 use Rattle.lol_script.specs.Explaining.{Explains, IsRunThrough, Tells, limiter_of, lines_by, with_reasons}
 use Rattle.lol_script.specs.FieldLists.{fields_in, list_text, match_field, started_by, was_refused}
@@ -39,10 +40,10 @@ use Rattle.lol_script.specs.declared.script_run.ScriptRun.{ScriptRun}
 -- 1. One tag
 
 -- A start tag was answered; if memory wasn't refused for the list, it has what the tag is reported under.
-pub record IsStarted (s : Selectors) (esi : Bool) (item_bytes : ℕ) (before : Limiter) (run : EventRun) (events : List Event) (tag : StartTag) (now : Limiter) (taken : Option Bool) (matched : FieldList) : Type 0 where
+pub record IsStarted (s : Selectors) (esi : Bool) (item_bytes : ℕ) (before : Limiter) (run : EventRun) (events : List Event) (tag : StartTag) (now : Limiter) (outcome : StartOutcome) (matched : FieldList) : Type 0 where
   pub infos : List MatchInfo
   pub listed : was_refused matched ≡ false → fields_in matched ≡ map match_field (map match_of infos)
-  pub answered : answer_taken taken infos (tries_in (machine_of run)) ≡ answer s esi (document s esi events) (Start tag)
+  pub answered : answer_with outcome infos (tries_in (machine_of run)) ≡ answer s esi (document s esi events) (Start tag)
   pub goes_on : IsRunOf s esi item_bytes before run (events ++ Start tag ∷ []) now
 
 -- An end tag was answered; if memory wasn't refused for the list, it says what the tag closes.

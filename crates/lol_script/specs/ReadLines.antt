@@ -21,7 +21,7 @@ abbrev pub no_lines : ReadLines
 no_lines = record { line = []; unread = []; number = 0; is_last = false }
 
 abbrev pub cut_at : ℕ → List ℕ → Option ℕ → ReadLines
-cut_at number bytes (Some place) = record { line = take place bytes; unread = drop (place + 1) bytes; number = number; is_last = false }
+cut_at number bytes (Some offset) = record { line = take offset bytes; unread = drop (offset + 1) bytes; number = number; is_last = false }
 cut_at number bytes None = record { line = bytes; unread = []; number = number; is_last = true }
 
 -- the first line of bytes, which is the last where no LF ends it

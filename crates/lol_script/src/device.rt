@@ -10,7 +10,7 @@ use thiserror::Error;
 /// Why a run failed.
 #[derive(Debug, Clone, Copy, PartialEq, Eq, Error)]
 pub enum RunFault {
-    /// Memory was refused.
+    /// An allocation failed.
     #[error("out of memory")]
     Memory,
 
@@ -49,7 +49,7 @@ impl<D> Counted<D> {
         self.failures
     }
 
-    /// The device.
+    /// Gives the device back, and forgets how many calls failed.
     pub fn into_inner(self) -> D
         ensures { result ≡ device_of self }
     {

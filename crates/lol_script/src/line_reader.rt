@@ -97,8 +97,8 @@ impl LineReader {
         ensures fault { IfErr result (λ fault. IsReadFault reader.old reader.new fault) }
         ensures unchanged { OnOk result (failures_of reader.new ≡ failures_of reader.old) }
     {
-        match line_feed_place(&self.bytes[self.next..]) {
-            Some(place) => self.go_to(Some(place)),
+        match line_feed_offset(&self.bytes[self.next..]) {
+            Some(offset) => self.go_to(Some(offset)),
             None => self.read_on(reader),
         }
     }
@@ -117,14 +117,14 @@ impl LineReader {
         self.end = 0;
         self.next = 0;
         make_chunk(&mut self.chunk)?;
-        let place = read_to_line_feed(&mut self.bytes, &mut self.chunk, reader)?;
-        self.go_to(place)
+        let offset = read_to_line_feed(&mut self.bytes, &mut self.chunk, reader)?;
+        self.go_to(offset)
     }
 
     /// Goes to the line that ends where the first LF stands in what comes after the line, or to the last, and counts it.
     #[inline(always)]
-    fn go_to(&mut self, place: Option<usize>) -> Result<(), RunFault>
-        requires { place ≡ position is_line_feed self.old.unread }
+    fn go_to(&mut self, offset: Option<usize>) -> Result<(), RunFault>
+        requires { offset ≡ position is_line_feed self.old.unread }
         ensures next { OnOk result (self.new ≡ next_line (self.old.number + 1) self.old.unread) }
         ensures fault { IfErr result (λ fault. fault ≡ RunFault.Memory) }
     {
@@ -133,9 +133,9 @@ impl LineReader {
         };
         self.number = number;
         self.start = self.next;
-        match place {
-            Some(place) => {
-                self.end = self.start + place;
+        match offset {
+            Some(offset) => {
+                self.end = self.start + offset;
                 self.next = self.end + 1;
                 self.is_last = false;
             }
@@ -149,9 +149,9 @@ impl LineReader {
     }
 }
 
-/// The place of the first LF. Empty lines are found without a call.
+/// The offset of the first LF. Empty lines are found without a call.
 #[inline]
-fn line_feed_place(bytes: &[u8]) -> Option<usize>
+fn line_feed_offset(bytes: &[u8]) -> Option<usize>
     ensures { result ≡ position is_line_feed bytes.now }
 {
     match bytes {
@@ -181,7 +181,7 @@ fn make_chunk(chunk: &mut Vec<u8>) -> Result<(), RunFault>
     Ok(())
 }
 
-/// Appends what is read, up to the first LF or the end, and returns the place of that LF. Where one comes, more may be appended after it.
+/// Appends what is read, up to the first LF or the end, and returns the offset of that LF. Where one comes, more may be appended after it.
 #[inline(never)]
 fn read_to_line_feed<R: Read>(
     bytes: &mut Vec<u8>,
@@ -194,8 +194,8 @@ fn read_to_line_feed<R: Read>(
     ensures read { OnOk result ((more : List ℕ)
         × Reads R.remaining reader.old reader.new more × (bytes.new.items ≡ bytes.old.items ++ more)) }
     ensures kept { (more : List ℕ) × (bytes.new.items ≡ bytes.old.items ++ more) }
-    ensures place { IfOk result (λ place. place ≡ position is_line_feed bytes.new.items) }
-    ensures end { IfOk result (λ place. place ≡ None → IsAtEnd (R.remaining (device_of reader.new))) }
+    ensures offset { IfOk result (λ offset. offset ≡ position is_line_feed bytes.new.items) }
+    ensures end { IfOk result (λ offset. offset ≡ None → IsAtEnd (R.remaining (device_of reader.new))) }
     ensures fault { IfErr result (λ fault. IsReadFault reader.old reader.new fault) }
     ensures unchanged { OnOk result (failures_of reader.new ≡ failures_of reader.old) }
 {
@@ -208,8 +208,8 @@ fn read_to_line_feed<R: Read>(
         let Ok(()) = bytes.extend_from_slice(&chunk[..count]) else {
             return Err(RunFault::Memory);
         };
-        if let Some(place) = line_feed_place(&bytes[scanned..]) {
-            return Ok(Some(scanned + place));
+        if let Some(offset) = line_feed_offset(&bytes[scanned..]) {
+            return Ok(Some(scanned + offset));
         }
     }
 }

@@ -66,22 +66,22 @@ pub struct StartLine<'s> {
 /// How many bytes are looked at one by one. Most fields are shorter, and a call of `memchr` costs more than these.
 const NEAR: usize = 8;
 
-/// The place of the first such byte.
+/// The offset of the first such byte.
 #[inline(always)]
-pub fn byte_place(byte: u8, bytes: &[u8]) -> Option<usize>
+pub fn byte_offset(byte: u8, bytes: &[u8]) -> Option<usize>
     ensures { result ≡ position (λ b. b == byte) bytes.now }
 {
     let near = bytes.len().min(NEAR);
-    for place in 0..near {
-        if bytes[place] == byte {
-            return Some(place);
+    for offset in 0..near {
+        if bytes[offset] == byte {
+            return Some(offset);
         }
     }
     if near == bytes.len() {
         return None;
     }
-    let place = memchr(byte, &bytes[near..])?;
-    Some(near + place)
+    let offset = memchr(byte, &bytes[near..])?;
+    Some(near + offset)
 }
 
 /// A line or the rest of one, cut at its first TAB.
@@ -92,8 +92,8 @@ fn cut(bytes: &[u8]) -> Option<(&[u8], &[u8])>
         (λ parts. slice_split is_tab bytes.now ≡ parts.0.now ∷ slice_split is_tab parts.1.now) }
     ensures shorter { IfSome result (λ parts. length parts.1.now < length bytes.now) }
 {
-    let place = byte_place(b'\t', bytes)?;
-    Some((&bytes[..place], &bytes[place + 1..]))
+    let offset = byte_offset(b'\t', bytes)?;
+    Some((&bytes[..offset], &bytes[offset + 1..]))
 }
 
 /// The first field, and the rest if there are more.

@@ -34,7 +34,7 @@ use lol_reasons::Reason;
 use lol_reasons::laws::numbers_change_reports_alone;
 use lol_vm::{
     Ast, AttributeBuffer, ElementValue, EventRun, LocalName, MatchInfo, RunCause,
-    SharedMemoryLimiter, Tries,
+    SharedMemoryLimiter, StartOutcome, Tries,
 };
 use std::alloc::{AllocError, Global};
 
@@ -138,8 +138,8 @@ impl ScriptRun {
             &mut self.fields,
         );
         match answered {
-            Ok(None) => push_line(&mut self.text, b"dropped"),
-            Ok(Some(asked)) => self.push_answer(asked),
+            Ok(StartOutcome::Dropped) => push_line(&mut self.text, b"dropped"),
+            Ok(StartOutcome::Reported { asked }) => self.push_answer(asked),
             Err(cause) => self.refuse(cause),
         }
     }
@@ -325,10 +325,10 @@ fn answer_start(
     outlines: &AttributeBuffer,
     limiter: &mut SharedMemoryLimiter,
     matched: &mut FieldList,
-) -> Result<Option<bool>, RunCause>
+) -> Result<StartOutcome, RunCause>
     requires { AreOutlinesOf line.attributes outlines.now.items }
-    ensures goes { IfOk result (λ taken. ForRunOfEvents run.old limiter.old (λ s esi item_bytes before events.
-        IsStarted s esi item_bytes before run.new events (start_tag_of line.entry) limiter.new taken matched.new)) }
+    ensures goes { IfOk result (λ outcome. ForRunOfEvents run.old limiter.old (λ s esi item_bytes before events.
+        IsStarted s esi item_bytes before run.new events (start_tag_of line.entry) limiter.new outcome matched.new)) }
     ensures refused { IfErr result (λ cause. cause ≢ RunCause.Memory
         → ForRunOfEvents run.old limiter.old (λ s esi item_bytes before events.
         (later : List Event) → StopsFor cause (length events)

@@ -7,7 +7,7 @@ ghost use Rattle.lol_vm.specs.Follows.{IsHandedOver};
 ghost use Rattle.lol_script.specs.Script.{is_equals, is_named, is_tab, attribute_at};
 ghost use Rattle.lol_script.specs.Lines.{AreOutlinesOf, fields_of, start_tag_of};
 
-use crate::lines::{StartLine, byte_place, has_name};
+use crate::lines::{StartLine, byte_offset, has_name};
 use lol_vm::{AttributeBuffer, AttributeOutline, AuxStartTagInfo, Bytes, Range};
 use std::alloc::AllocError;
 
@@ -19,14 +19,14 @@ fn outline_of(text: &[u8], start: usize, end: usize) -> AttributeOutline
     ensures inside { OutlineIsInside text.now result }
 {
     let raw_range = Range { start, end };
-    match byte_place(b'=', &text[start..end]) {
-        Some(place) => AttributeOutline {
+    match byte_offset(b'=', &text[start..end]) {
+        Some(offset) => AttributeOutline {
             name: Range {
                 start,
-                end: start + place,
+                end: start + offset,
             },
             value: Some(Range {
-                start: start + place + 1,
+                start: start + offset + 1,
                 end,
             }),
             raw_range,
@@ -39,7 +39,7 @@ fn outline_of(text: &[u8], start: usize, end: usize) -> AttributeOutline
     }
 }
 
-/// Writes the outlines of attributes that are separated by TAB in the place of those that are there. Returns whether each has a name.
+/// Writes the outlines of attributes that are separated by TAB over those that are there. Returns whether each has a name.
 fn fill_outlines(outlines: &mut AttributeBuffer, text: &[u8]) -> Result<bool, AllocError>
     ensures named { IfOk result (λ named.
         named ≡ list_all is_named (map attribute_at (slice_split is_tab text.now))) }
@@ -50,17 +50,17 @@ fn fill_outlines(outlines: &mut AttributeBuffer, text: &[u8]) -> Result<bool, Al
     outlines.clear();
     let mut named = true;
     let mut start = 0;
-    while let Some(place) = byte_place(b'\t', &text[start..]) {
-        named &= has_name(&text[start..start + place]);
-        outlines.push(outline_of(text, start, start + place))?;
-        start += place + 1;
+    while let Some(offset) = byte_offset(b'\t', &text[start..]) {
+        named &= has_name(&text[start..start + offset]);
+        outlines.push(outline_of(text, start, start + offset))?;
+        start += offset + 1;
     }
     named &= has_name(&text[start..]);
     outlines.push(outline_of(text, start, text.len()))?;
     Ok(named)
 }
 
-/// Writes the outlines of a line's attributes in the place of those that are there. Returns whether each has a name.
+/// Writes the outlines of a line's attributes over those that are there. Returns whether each has a name.
 #[inline(always)]
 pub fn cut_attributes(
     attributes: Option<&[u8]>,

@@ -28,9 +28,9 @@ pub use Rattle.lol_stack.specs.declared.stack.StackOf.{StackOf}
 pub use Rattle.lol_stack.specs.declared.stack_item.StackItemOf.{StackItemOf}
 pub use Rattle.lol_vm.specs.Answers.{Answer, Dropped, Ended, Match, Started, after, answer, answers, answers_from, asks, attribute_tries, document, document_from, is_dropped, is_tried, is_tried_open, matching_ids, name_tries, needs_attributes, report}
 pub use Rattle.lol_vm.specs.Documents.{Document, after_end, after_start, children_of, closed, element_of, empty, inner_part, outer_part, parent_of, place_of, same_parent, typed_children_of}
-pub use Rattle.lol_vm.specs.EventRuns.{Goes, GoesByStart, IsRunOf, answer_taken, machine_of}
+pub use Rattle.lol_vm.specs.EventRuns.{Goes, GoesByStart, IsRunOf, answer_with, machine_of}
 pub use Rattle.lol_vm.specs.Events.{End, Event, Start, has_content, has_content_in}
-pub use Rattle.lol_vm.specs.Follows.{Follows, IsCharged, IsDropped, IsHandedOver, IsRefusedFor, IsRunWithoutMemory, IsTaken, StartedElement, Stops, opens, refusal_after}
+pub use Rattle.lol_vm.specs.Follows.{Follows, IsCharged, IsDropped, IsHandedOver, IsRefusedFor, IsRunWithoutMemory, HasOutcome, StartedElement, Stops, opens, refusal_after}
 pub use Rattle.lol_vm.specs.InstructionRuns.{AreRunnable, HasTriesLeft, IsInsideOf, NeedNoMemory, all_at, first_open_from, gathered_by_names, gathered_with_attributes, give_branch, holds_seen, instructions_at, open_among, tried_until, value_seen}
 pub use Rattle.lol_vm.specs.MachineLaws.{IsRequest, ProgramsHaveEachNode, RangesHoldLeftMatches, starts_open}
 pub use Rattle.lol_vm.specs.Machines.{AreItems, HasRanges, HoldOnce, IsItem, IsReached, LeftMatches, Matches, OpenItem, active_of, children_shown, hereditary_jumps_of, item_shown, items_shown, jumps_of, last_jumps, ranges_of_active, ranges_to_run}

@@ -1,11 +1,13 @@
 -- A start tag, and its rest if that is handed over.
-use Rattle.lol_vm.proofs.Common.{◌≡◌, ℕ, ◌+◌, ◌-◌, ◌≤◌, ◌<◌, ◌*◌, Bool, true, false, not, List, [], ◌∷◌, ◌++◌, length, map, reverse, Option, Some, None, refl, sym, ap, ◌∙◌, subst, arith, ◌&&◌, map_push, reverse-append, StartTag, Ids, IsLimited, Limiter, charged, full_count, Selectors, Element, names_counted, attributes_counted, Match, answer, document, is_dropped, Document, after_start, element_of, empty, Event, Start, has_content, GoesByStart, IsRunOf, machine_of, Follows, IsCharged, IsDropped, IsTaken, opens, StartedElement, match_of, list_in, last_count, Vm, Stands, IsAnswered, IsPending, AreOpened, info_of, stack_in, tries_in, data_in, slots_charged, slot_bytes, and-false, and-true}
+use Rattle.lol_vm.proofs.Common.{◌≡◌, ℕ, ◌+◌, ◌-◌, ◌≤◌, ◌<◌, ◌*◌, Bool, true, false, not, List, [], ◌∷◌, ◌++◌, length, map, reverse, refl, sym, ap, ◌∙◌, subst, arith, ◌&&◌, map_push, reverse-append, StartTag, Ids, IsLimited, Limiter, charged, full_count, Selectors, Element, names_counted, attributes_counted, Match, answer, document, is_dropped, Document, after_start, element_of, empty, Event, Start, has_content, GoesByStart, IsRunOf, machine_of, Follows, IsCharged, IsDropped, HasOutcome, opens, StartedElement, match_of, list_in, last_count, Vm, Stands, IsAnswered, IsPending, AreOpened, info_of, stack_in, tries_in, data_in, slots_charged, slot_bytes, and-false, and-true}
 use Rattle.std.proofs.lemmas.List.{length-append}
 use Rattle.lol_memory.specs.declared.match_info.MatchInfo.{MatchInfo}
 use Rattle.lol_vm.specs.Answers as answers
 use Rattle.lol_stack.specs.Calls.{IsCalledAtEach}
 use Rattle.lol_vm.specs.declared.error.AuxStartTagInfoRequest.{AuxStartTagInfoRequest}
 use Rattle.lol_vm.specs.declared.event_run.EventRun.{EventRun}
+use Rattle.lol_vm.specs.declared.events.StartOutcome.{StartOutcome}
+use Rattle.lol_vm.specs.declared.events.StartOutcome.TheVariants.{Reported, Dropped}
 use Rattle.lol_vm.proofs.CallerLemmas.{is_left, unfinished_is}
 use Rattle.lol_vm.proofs.RunSteps.{charged_later, follows_on, not_refused}
 use Rattle.lol_vm.proofs.Runs.{events-document}
@@ -33,9 +35,9 @@ module _ (s : Selectors) (esi : Bool) (events : List Event) (tag : StartTag) whe
     }
 
 module _ {E F : Type 0} (ids_of : E → Ids) (step : F → MatchInfo → Unit {0} → F → Type 0) (s : Selectors) (esi : Bool) (events : List Event) (tag : StartTag) (old new : Vm E) (f g : F) where
-  pub taken_stands : (taken : Option Bool) → IsTaken ids_of step s esi events tag taken old new f g → Stands s esi new (events ++ Start tag ∷ [])
-  taken_stands None h = h.stands
-  taken_stands (Some b) h = h.stands
+  pub outcome_stands : (outcome : StartOutcome) → HasOutcome ids_of step s esi events tag outcome old new f g → Stands s esi new (events ++ Start tag ∷ [])
+  outcome_stands Dropped h = h.stands
+  outcome_stands (Reported b) h = h.stands
 
 -- What a run makes of it.
 module _ (s : Selectors) (esi : Bool) (item_bytes : ℕ) (before : Limiter) (vm : Vm StartedElement) (events : List Event) (now : Limiter) (f : Follows s esi item_bytes before vm events now) (tag : StartTag) where
@@ -97,7 +99,7 @@ module _ (s : Selectors) (esi : Bool) (item_bytes : ℕ) (before : Limiter) (vm 
       follows_started : Follows s esi item_bytes before new (events ++ Start tag ∷ []) later
       follows_started = goes_on (has_content esi tag) ((λ i. has_content esi tag && not (isnt_dropped i)) ∙ and-true (has_content esi tag)) (numbers (has_content esi tag) a.opened)
 
--- A tag that was taken, its element numbered, is one more that the run has answered.
+-- A tag with an outcome, its element numbered, is one more that the run has answered.
 module _ (s : Selectors) (esi : Bool) (item_bytes : ℕ) (before : Limiter) (run : EventRun) (events : List Event) (now : Limiter) (r : IsRunOf s esi item_bytes before run events now) (tag : StartTag)
     (later_run : EventRun) (later : Limiter) (stands : Stands s esi (machine_of later_run) (events ++ Start tag ∷ [])) (bytes : slot_bytes (machine_of later_run) ≡ slot_bytes (machine_of run))
     (charge : later ≡ charged now ((slots_charged (machine_of later_run) - slots_charged (machine_of run)) * slot_bytes (machine_of run)))
@@ -112,8 +114,8 @@ module _ (s : Selectors) (esi : Bool) (item_bytes : ℕ) (before : Limiter) (run
       let c = r.counted in
       omega (arith, counted, size, c)
 
-  pub goes_taken : (taken : Option Bool) → IsTaken ids_of step s esi events tag taken (machine_of run) mid g h → GoesByStart step s esi item_bytes before later_run events tag later taken g h
-  goes_taken None is =
+  pub goes_with : (outcome : StartOutcome) → HasOutcome ids_of step s esi events tag outcome (machine_of run) mid g h → GoesByStart step s esi item_bytes before later_run events tag later outcome g h
+  goes_with Dropped is =
       let same = unchanged (let size = ap length is.kept in omega (arith, size, open_is)) in
       record {
         infos = [];
@@ -125,7 +127,7 @@ module _ (s : Selectors) (esi : Bool) (item_bytes : ℕ) (before : Limiter) (run
           counted = count_is;
         };
       }
-  goes_taken (Some asked) is = record {
+  goes_with (Reported asked) is = record {
     infos = map info_of is.matched;
     called = is.reported;
     answered =

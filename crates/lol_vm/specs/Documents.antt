@@ -64,7 +64,7 @@ outer_part None elements = elements
 outer_part (Some place) elements = drop (place + 1) elements
 
 -- The elements that an end tag closes, by their numbers, the outermost first: the innermost open element of its name and all
--- inside it (HTML Standard, "The rules for parsing tokens in HTML content": an end tag pops up to an element of its name).
+-- inside it. (HTML Standard, "The rules for parsing tokens in HTML content": an end tag pops up to an element of its name.)
 abbrev pub closed : List ℕ → Document → List ℕ
 closed name d = reverse (map (λ e. e.number) (inner_part (place_of name d.open_elements) d.open_elements))
 

@@ -1,5 +1,5 @@
 -- Runs whose events come one by one.
-use Rattle.std.specs.Prelude.{ℕ, ◌≡◌, Bool, List, [], ◌∷◌, ◌++◌, map, length, Option, Some, None}
+use Rattle.std.specs.Prelude.{ℕ, ◌≡◌, Bool, List, [], ◌∷◌, ◌++◌, map, length, Option}
 use Rattle.lol_base.specs.LocalNames.{Name}
 use Rattle.lol_base.specs.StartTags.{StartTag}
 use Rattle.lol_base.specs.declared.namespace.Namespace.{Namespace}
@@ -10,13 +10,16 @@ use Rattle.lol_memory.specs.Limiter.{Limiter}
 use Rattle.lol_memory.specs.declared.match_info.MatchInfo.{MatchInfo}
 use Rattle.lol_program.specs.Paths.{Selectors}
 use Rattle.lol_stack.specs.Calls.{IsCalledAtEach}
-use Rattle.lol_vm.specs.Answers.{Answer, Started, Dropped, answer, document}
+use Rattle.lol_vm.specs.Answers.{Answer, answer, document}
+use Rattle.lol_vm.specs.Answers as answers
 use Rattle.lol_vm.specs.Documents.{closed}
 use Rattle.lol_vm.specs.Events.{Event, Start, End}
 use Rattle.lol_vm.specs.Follows.{Follows, IsHandedOver, StartedElement}
 use Rattle.lol_vm.specs.Views.{answer_of, match_of}
 use Rattle.lol_vm.specs.Vms.{Vm, IsNameOf, IsTagOf, tries_in}
 use Rattle.lol_vm.specs.declared.event_run.EventRun.{EventRun}
+use Rattle.lol_vm.specs.declared.events.StartOutcome.{StartOutcome}
+use Rattle.lol_vm.specs.declared.events.StartOutcome.TheVariants.{Reported, Dropped}
 use Rattle.lol_vm.specs.declared.events.TagReport.{TagReport}
 
 abbrev pub machine_of : EventRun → Vm StartedElement
@@ -32,16 +35,16 @@ pub record Goes (s : Selectors) (esi : Bool) (item_bytes : ℕ) (before : Limite
   pub answered : answer_of report ≡ answer s esi (document s esi events) event
   pub goes_on : IsRunOf s esi item_bytes before run (events ++ event ∷ []) now
 
--- the answer to a start tag: it was dropped, or reported so, its attributes being asked for or not
-abbrev pub answer_taken : Option Bool → List MatchInfo → Tries → Answer
-answer_taken None infos tries = Dropped
-answer_taken (Some asked) infos tries = Started (map match_of infos) asked (names_counted tries) (attributes_counted tries)
+-- the answer to a start tag of this outcome
+abbrev pub answer_with : StartOutcome → List MatchInfo → Tries → Answer
+answer_with Dropped infos tries = answers.Dropped
+answer_with (Reported asked) infos tries = answers.Started (map match_of infos) asked (names_counted tries) (attributes_counted tries)
 
 -- A start tag more was answered: the handler was called with what it is reported under.
-pub record GoesByStart {F : Type 0} (step : F → MatchInfo → Unit {0} → F → Type 0) (s : Selectors) (esi : Bool) (item_bytes : ℕ) (before : Limiter) (run : EventRun) (events : List Event) (tag : StartTag) (now : Limiter) (taken : Option Bool) (f g : F) : Type 0 where
+pub record GoesByStart {F : Type 0} (step : F → MatchInfo → Unit {0} → F → Type 0) (s : Selectors) (esi : Bool) (item_bytes : ℕ) (before : Limiter) (run : EventRun) (events : List Event) (tag : StartTag) (now : Limiter) (outcome : StartOutcome) (f g : F) : Type 0 where
   pub infos : List MatchInfo
   pub called : IsCalledAtEach step f infos g
-  pub answered : answer_taken taken infos (tries_in (machine_of run)) ≡ answer s esi (document s esi events) (Start tag)
+  pub answered : answer_with outcome infos (tries_in (machine_of run)) ≡ answer s esi (document s esi events) (Start tag)
   pub goes_on : IsRunOf s esi item_bytes before run (events ++ Start tag ∷ []) now
 
 -- An end tag more was answered: the handler was called with what was kept of the elements that it closes.

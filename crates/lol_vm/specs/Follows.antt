@@ -18,6 +18,8 @@ use Rattle.lol_stack.specs.Stacks.{list_in, last_count}
 use Rattle.lol_vm.specs.Vms.{Vm, Stands, IsAnswered, IsRestOf, stack_in, data_in, slots_charged, slot_bytes}
 use Rattle.lol_vm.specs.declared.events.RunCause.{RunCause}
 use Rattle.lol_vm.specs.declared.events.RunCause.TheVariants.{MemoryLimitExceeded, CounterFull, Memory}
+use Rattle.lol_vm.specs.declared.events.StartOutcome.{StartOutcome}
+use Rattle.lol_vm.specs.declared.events.StartOutcome.TheVariants.{Reported, Dropped}
 use Rattle.lol_stack.specs.declared.element_value.ElementValue.{ElementValue}
 
 -- what a run keeps of an open element: the ids that it was reported under, and the number of its start tag
@@ -45,10 +47,10 @@ module _ {E : Type 0} where
     pub kept : data_in new ≡ data_in old
     pub silent : g ≡ f
 
-  -- A start tag was answered, its attributes being asked for or not, or it was dropped.
-  abbrev pub IsTaken : {F : Type 0} → (E → Ids) → (F → MatchInfo → Unit {0} → F → Type 0) → Selectors → Bool → List Event → StartTag → Option Bool → Vm E → Vm E → F → F → Type 0
-  IsTaken ids_of step s esi events tag None old new f g = IsDropped s esi events tag old new f g
-  IsTaken ids_of step s esi events tag (Some asked) old new f g = IsAnswered ids_of step s esi events tag asked old new f g
+  -- What became of a start tag.
+  abbrev pub HasOutcome : {F : Type 0} → (E → Ids) → (F → MatchInfo → Unit {0} → F → Type 0) → Selectors → Bool → List Event → StartTag → StartOutcome → Vm E → Vm E → F → F → Type 0
+  HasOutcome ids_of step s esi events tag Dropped old new f g = IsDropped s esi events tag old new f g
+  HasOutcome ids_of step s esi events tag (Reported asked) old new f g = IsAnswered ids_of step s esi events tag asked old new f g
 
   -- Why a start tag was refused, as the machine has it.
   abbrev pub IsRefusedFor : RunCause → Selectors → Bool → List Event → StartTag → Vm E → Limiter → Type 0

@@ -44,7 +44,7 @@ pub record HasCounted {E : Type 0} (stack : StackOf Name StackNames E) (by_type 
 
 -- 2. Standing
 
--- A program and a stack stand on a document: the program is one of the selectors, where its places are those of these paths; the stack's
+-- A program and a stack stand on a document. The program is one of the selectors, where its places are those of these paths. The stack's
 -- lists, items and counters are those of the open elements, and its slots those of the most elements that were open at a time.
 pub record StandsOn {E : Type 0} (s : Selectors) (paths : List Path) (p : Program) (stack : StackOf Name StackNames E) (d : Document) (most : ℕ) : Type 0 where
   pub program : IsProgramOf s paths p

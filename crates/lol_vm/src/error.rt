@@ -24,7 +24,7 @@ pub enum VmError<E> {
     /// The charge for its element would pass the limiter's maximum.
     #[error(transparent)]
     MemoryLimitExceeded(MemoryLimitExceededError),
-    /// Memory was refused.
+    /// An allocation failed.
     #[error(transparent)]
     Memory(AllocError),
     /// Its parent has as many children as can be counted.
@@ -44,7 +44,7 @@ pub enum StartTagError {
     /// Its parent has as many children as can be counted.
     #[error("an element has as many children as can be counted")]
     CounterFull,
-    /// Memory was refused.
+    /// An allocation failed.
     #[error("out of memory")]
     Memory,
     /// An earlier tag was refused.

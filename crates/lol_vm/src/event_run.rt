@@ -7,7 +7,7 @@ ghost use Rattle.lol_instructions.specs.Counters.{full_count};
 ghost use Rattle.lol_vm.specs.Due.{IsWithinLimit};
 ghost use Rattle.lol_vm.specs.Events.{Event, Start, End};
 ghost use Rattle.lol_vm.specs.EventRuns.{ForEndInRun, ForRunOfEvents, ForTagInRun, GoesByEnd, GoesByStart, IsRunOf, machine_of};
-ghost use Rattle.lol_vm.specs.Follows.{IsCharged, IsTaken, IsRefusedFor, Stops, opens};
+ghost use Rattle.lol_vm.specs.Follows.{HasOutcome, IsCharged, IsRefusedFor, Stops, opens};
 ghost use Rattle.lol_vm.specs.Premises.{ForEvents, ForHandedOf};
 ghost use Rattle.lol_stack.specs.declared.element_value.ElementValue.{ElementValue};
 ghost use Rattle.lol_stack.specs.Stacks.{last_count};
@@ -17,7 +17,7 @@ ghost use Rattle.lol_vm.specs.Views.{selectors};
 ghost use Rattle.lol_vm.specs.Vms.{Stands, ChargesSlots, IsCovered, OpensNothing, stack_in, tries_in, data_in, slots_charged, slot_bytes};
 
 use crate::error::{StartTagError, VmError};
-use crate::events::RunCause;
+use crate::events::{RunCause, StartOutcome};
 use crate::vm::SelectorMatchingVm;
 use lol_base::{AuxStartTagInfo, LocalName, Namespace};
 use lol_memory::{MatchInfo, SharedMemoryLimiter};
@@ -58,7 +58,7 @@ impl EventRun {
     }
 
     /// Answers a start tag, whose attributes are handed over if there is a rest. The handler is called with what it is reported under,
-    /// ascending by id. Returns whether its attributes were asked for, or nothing where they were and the tag was dropped.
+    /// ascending by id.
     ///
     /// # Errors
     /// `MemoryLimitExceeded` and `CounterFull` exactly where the tag is the first that is to be refused so; `Memory` where memory was refused, or no more
@@ -70,13 +70,13 @@ impl EventRun {
         rest: Option<AuxStartTagInfo<'_>>,
         limiter: &mut SharedMemoryLimiter,
         match_handler: &mut F,
-    ) -> Result<Option<bool>, RunCause>
+    ) -> Result<StartOutcome, RunCause>
         requires ranges { IfSome rest RangesAreInside }
         requires callable { F.IsAlwaysCallable match_handler.old }
         ensures again { F.IsAlwaysCallable match_handler.new }
-        ensures goes { IfOk result (λ taken.
+        ensures goes { IfOk result (λ outcome.
             ForTagInRun self.old limiter.old local_name.entry ns rest.entry (λ s esi item_bytes before events tag.
-            GoesByStart F.step s esi item_bytes before self.new events tag limiter.new taken
+            GoesByStart F.step s esi item_bytes before self.new events tag limiter.new outcome
             match_handler.old match_handler.new)) }
         ensures stops { IfErr result (λ cause.
             ForTagInRun self.old limiter.old local_name.entry ns rest.entry (λ s esi item_bytes before events tag.
@@ -90,13 +90,13 @@ impl EventRun {
             IsCharged item_bytes before (machine_of self.new) limiter.new)) }
     {
         let open_before = self.vm.open_elements();
-        let taken = take_start(&mut self.vm, local_name, ns, rest, limiter, match_handler)?;
+        let outcome = take_start(&mut self.vm, local_name, ns, rest, limiter, match_handler)?;
         number_opened(&mut self.vm, open_before, self.count);
         let Some(count) = self.count.checked_add(1) else {
             return Err(RunCause::Memory);
         };
         self.count = count;
-        Ok(taken)
+        Ok(outcome)
     }
 
     /// Answers an end tag. The handler is called with what was kept of each element that it closes, the outermost first.
@@ -163,8 +163,7 @@ impl EventRun {
     }
 }
 
-/// Matches a start tag, and finishes it if its attributes are asked for and handed over: whether they were asked for, or none where the
-/// tag was dropped.
+/// Matches a start tag, and finishes it if its attributes are asked for and handed over.
 fn take_start<F: FnMut(MatchInfo)>(
     vm: &mut SelectorMatchingVm<Started>,
     local_name: LocalName<'_>,
@@ -172,12 +171,12 @@ fn take_start<F: FnMut(MatchInfo)>(
     rest: Option<AuxStartTagInfo<'_>>,
     limiter: &mut SharedMemoryLimiter,
     match_handler: &mut F,
-) -> Result<Option<bool>, RunCause>
+) -> Result<StartOutcome, RunCause>
     requires ranges { IfSome rest RangesAreInside }
     requires callable { F.IsAlwaysCallable match_handler.old }
     ensures again { F.IsAlwaysCallable match_handler.new }
-    ensures taken { IfOk result (λ taken. ForHandedOf vm.old local_name.entry ns rest.entry (λ s esi events tag.
-        IsTaken (λ started. started.matched_ids) F.step s esi events tag taken
+    ensures outcome { IfOk result (λ outcome. ForHandedOf vm.old local_name.entry ns rest.entry (λ s esi events tag.
+        HasOutcome (λ started. started.matched_ids) F.step s esi events tag outcome
         vm.old vm.new match_handler.old match_handler.new)) }
     ensures charges { ChargesSlots vm.old vm.new limiter.old limiter.new }
     ensures left { OnErr result (OpensNothing (Some local_name.entry) vm.old vm.new limiter.old limiter.new) }
@@ -190,7 +189,7 @@ fn take_start<F: FnMut(MatchInfo)>(
 {
     if let Some(aux_info) = rest {
         return match vm.exec_for_whole_start_tag(local_name, ns, aux_info, limiter, match_handler) {
-            Ok(asked) => Ok(Some(asked)),
+            Ok(asked) => Ok(StartOutcome::Reported { asked }),
             Err(StartTagError::MemoryLimitExceeded) => Err(RunCause::MemoryLimitExceeded),
             Err(StartTagError::CounterFull) => Err(RunCause::CounterFull),
             Err(StartTagError::Memory) => Err(RunCause::Memory),
@@ -198,8 +197,8 @@ fn take_start<F: FnMut(MatchInfo)>(
         };
     }
     match vm.exec_for_start_tag(local_name, ns, limiter, match_handler) {
-        Ok(()) => Ok(Some(false)),
-        Err(VmError::InfoRequest(_)) => Ok(None),
+        Ok(()) => Ok(StartOutcome::Reported { asked: false }),
+        Err(VmError::InfoRequest(_)) => Ok(StartOutcome::Dropped),
         Err(VmError::MemoryLimitExceeded(_)) => Err(RunCause::MemoryLimitExceeded),
         Err(VmError::CounterFull) => Err(RunCause::CounterFull),
         Err(VmError::Memory(_)) => Err(RunCause::Memory),

@@ -21,6 +21,15 @@ pub enum TagEvent<'i> {
     },
 }
 
+/// What became of a start tag. (Not in lol_html.)
+#[derive(Clone, Copy)]
+pub enum StartOutcome {
+    /// It was reported; its attributes were asked for or not.
+    Reported { asked: bool },
+    /// Its attributes were asked for and not handed over.
+    Dropped,
+}
+
 /// What is answered to a tag. (Not in lol_html.)
 #[derive(Debug, Drop)]
 pub enum TagReport {
@@ -47,7 +56,7 @@ pub enum RunCause {
     /// An element has as many children as can be counted.
     #[error("an element has as many children as can be counted")]
     CounterFull,
-    /// Memory was refused.
+    /// An allocation failed.
     #[error("out of memory")]
     Memory,
 }

@@ -1,6 +1,7 @@
 //! The selector matching machine: which selectors match each start tag of a document, as its tags come.
 #![tactic(auto)]
 
+mod collected;
 mod error;
 mod event_run;
 mod events;
@@ -9,14 +10,14 @@ pub mod laws;
 pub mod machine_laws;
 mod run;
 mod spared_runs;
-mod started;
 mod tag_runs;
 mod vm;
 pub mod vm_laws;
 
+pub use collected::Collected;
 pub use error::{AuxStartTagInfoRequest, StartTagError, VmError};
 pub use event_run::EventRun;
-pub use events::{RunCause, RunRefusal, RunStop, TagEvent, TagReport};
+pub use events::{RunCause, RunRefusal, RunStop, StartOutcome, TagEvent, TagReport};
 pub use lol_base::{
     AttributeBuffer, AttributeOutline, Attributes, AuxStartTagInfo, Bytes, LocalName, Namespace,
     Range, Tag,

@@ -13,9 +13,9 @@ ghost use Rattle.lol_vm.specs.RunRefusals.{allowance_of, IsRefusedAt, StopsBefor
 ghost use Rattle.lol_vm.specs.Views.{HasRangesInside, event_of, answer_of, selectors};
 ghost use Rattle.lol_vm.specs.Vms.{slots_charged, slot_bytes};
 
+use crate::collected::Collected;
 use crate::event_run::{EventRun, Started};
-use crate::events::{RunCause, RunRefusal, RunStop, TagEvent, TagReport};
-use crate::started::Collected;
+use crate::events::{RunCause, RunRefusal, RunStop, StartOutcome, TagEvent, TagReport};
 use lol_base::{AuxStartTagInfo, LocalName, Namespace};
 use lol_memory::{MatchInfo, SharedMemoryLimiter};
 use lol_program::Ast;
@@ -38,7 +38,7 @@ fn refused(reports: Vec<TagReport>, event: usize, cause: RunCause) -> RunRefusal
 /// # Errors
 /// `MemoryLimitExceeded` and `CounterFull` with the first tag that is to be refused so, `Memory` where memory was refused, each with the
 /// reports of the tags before. Memory is refused with no tag whose counter is full, nor with one whose charge passes the limit and that
-/// is run without memory (`RunsWithoutMemory`), nor after such a tag; what is refused before the first tag has the number 0.
+/// is run without memory (`RunsWithoutMemory`), nor after such a tag. What is refused before the first tag has the number 0.
 pub fn match_events(
     alloc: Global,
     ast: Ast,
@@ -233,14 +233,14 @@ fn answer_start(
     {
         collected.keep(info);
     };
-    let taken = run.start(local_name, ns, rest, limiter, &mut handler)?;
+    let outcome = run.start(local_name, ns, rest, limiter, &mut handler)?;
     let Collected { items, refused } = collected;
     if refused {
         return Err(RunCause::Memory);
     }
-    Ok(match taken {
-        None => TagReport::Dropped,
-        Some(asked) => TagReport::Started {
+    Ok(match outcome {
+        StartOutcome::Dropped => TagReport::Dropped,
+        StartOutcome::Reported { asked } => TagReport::Started {
             matched: items,
             asked,
             tries: run.tries(),

@@ -149,9 +149,9 @@ impl<E: ElementData> VmOf<Program, LocalName<'static>, StackNames, E> {
     /// `finish_start_tag`, or dropped. A dropped one leaves its element counted, unopened and unreported.
     ///
     /// # Errors
-    /// `Failed` exactly after a refusal; else `CounterFull` exactly if the parent has as many children as can be counted;
-    /// `MemoryLimitExceeded` exactly if, once its reports are given, the element is to be opened and can't be charged; `Memory` only where
-    /// memory is refused, before all reports, or after all of them where the element could be charged; else `InfoRequest`, which refuses
+    /// `Failed` exactly after a refusal; else `CounterFull` exactly if the parent has as many children as can be counted.
+    /// `MemoryLimitExceeded` exactly if, once its reports are given, the element is to be opened and can't be charged. `Memory` only if an
+    /// allocation fails, before all reports, or after all of them if the element could be charged. Else `InfoRequest`, which refuses
     /// nothing. A void element of HTML takes no memory where ids are below 32 and no test is by type (`TakesNoMemory`): neither it nor its
     /// finishing is ever refused for memory. Nor is a tag that is run without memory (`RunsWithoutMemory`) and can't be charged.
     pub fn exec_for_start_tag<F: FnMut(MatchInfo)>(
@@ -210,9 +210,9 @@ impl<E: ElementData> VmOf<Program, LocalName<'static>, StackNames, E> {
     /// (Not in lol_html.)
     ///
     /// # Errors
-    /// `Failed` exactly after a refusal; else `CounterFull` exactly if the parent has as many children as can be counted;
-    /// `MemoryLimitExceeded` exactly if, once its reports are given, the element is to be opened and can't be charged; `Memory` only where
-    /// memory is refused, before all reports, or after all of them where the element could be charged. A start tag that takes no memory
+    /// `Failed` exactly after a refusal; else `CounterFull` exactly if the parent has as many children as can be counted.
+    /// `MemoryLimitExceeded` exactly if, once its reports are given, the element is to be opened and can't be charged. `Memory` only if an
+    /// allocation fails, before all reports, or after all of them if the element could be charged. A start tag that takes no memory
     /// (`TakesNoMemory`) is never refused for memory, nor is one of flat selectors (`AreFlat`) that can't be charged.
     pub fn exec_for_whole_start_tag<F: FnMut(MatchInfo)>(
         &mut self,

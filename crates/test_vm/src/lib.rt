@@ -1,5 +1,5 @@
-//! Tests of what a start tag gathers, of the machine, of whole runs and of callers: rows whose answers come from outside, a long run beside
-//! selectors that are matched by hand, and each call that can refuse once with ample memory.
+//! Tests of what a start tag gathers, of the machine, of whole runs and of callers. There are rows whose answers come from outside, a long
+//! run beside selectors that are matched by hand, and each call that can refuse once with ample memory.
 #![tactic(auto)]
 
 #[cfg(test)]

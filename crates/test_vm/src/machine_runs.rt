@@ -4,7 +4,7 @@ ghost use Rattle.std.specs.Prelude.{◌≡◌};
 ghost use Rattle.lol_vm.specs.Vms.{slot_bytes};
 
 use lol_vm::{
-    Ast, AuxStartTagInfoRequest, LocalName, MatchInfo, Namespace, SelectorMatchingVm,
+    Ast, AuxStartTagInfoRequest, Collected, LocalName, MatchInfo, Namespace, SelectorMatchingVm,
     SharedMemoryLimiter, StartTagError, VmError,
 };
 use std::alloc::Global;
@@ -76,36 +76,6 @@ pub(crate) enum Told {
 /// A machine for data with numbers.
 pub(crate) type Machine = SelectorMatchingVm<Numbered>;
 
-/// What was reported, and whether memory for a report was refused.
-#[derive(Drop)]
-struct Reports {
-    infos: Vec<MatchInfo>,
-    refused: bool,
-}
-
-impl Reports {
-    fn keep(&mut self, info: MatchInfo) {
-        if self.infos.push(info).is_err() {
-            self.refused = true;
-        }
-    }
-}
-
-/// The data that were handed out, and whether memory for one was refused.
-#[derive(Drop)]
-struct HandedOut {
-    data: Vec<Numbered>,
-    refused: bool,
-}
-
-impl HandedOut {
-    fn keep(&mut self, data: Numbered) {
-        if self.data.push(data).is_err() {
-            self.refused = true;
-        }
-    }
-}
-
 /// A machine without ESI.
 pub(crate) fn machine(rt: &impl Abort, alloc: Global, ast: Ast) -> Machine
     ensures { slot_bytes result ≡ 64 }
@@ -134,10 +104,7 @@ pub(crate) fn start(
 ) -> (Said, Vec<MatchInfo>)
     ensures { slot_bytes vm.new ≡ slot_bytes vm.old }
 {
-    let mut reports = Reports {
-        infos: Vec::new(alloc),
-        refused: false,
-    };
+    let mut reports = Collected::new(alloc);
     let mut handler = |info: MatchInfo| {
         reports.keep(info);
     };
@@ -157,9 +124,9 @@ pub(crate) fn start(
             Said::Failed
         }
     };
-    let Reports { infos, refused } = reports;
+    let Collected { items, refused } = reports;
     assert!(rt; !refused);
-    (said, infos)
+    (said, items)
 }
 
 /// The same of one whose attributes are told at once.
@@ -172,10 +139,7 @@ pub(crate) fn start_whole(
 ) -> (Said, Vec<MatchInfo>)
     ensures { slot_bytes vm.new ≡ slot_bytes vm.old }
 {
-    let mut reports = Reports {
-        infos: Vec::new(alloc),
-        refused: false,
-    };
+    let mut reports = Collected::new(alloc);
     let mut handler = |info: MatchInfo| {
         reports.keep(info);
     };
@@ -191,9 +155,9 @@ pub(crate) fn start_whole(
             Said::Failed
         }
     };
-    let Reports { infos, refused } = reports;
+    let Collected { items, refused } = reports;
     assert!(rt; !refused);
-    (said, infos)
+    (said, items)
 }
 
 /// Tells a machine of a start tag, and drops its request for attributes.
@@ -221,17 +185,14 @@ pub(crate) fn start_and_drop(
 pub(crate) fn end(rt: &impl Abort, alloc: Global, vm: &mut Machine, name: &str) -> Vec<Numbered>
     ensures { slot_bytes vm.new ≡ slot_bytes vm.old }
 {
-    let mut closed = HandedOut {
-        data: Vec::new(alloc),
-        refused: false,
-    };
+    let mut closed = Collected::new(alloc);
     let mut handler = |data: Numbered| {
         closed.keep(data);
     };
     vm.exec_for_end_tag(LocalName::new(name.as_bytes()), &mut handler);
-    let HandedOut { data, refused } = closed;
+    let Collected { items, refused } = closed;
     assert!(rt; !refused);
-    data
+    items
 }
 
 /// Gives the last open element a number.

@@ -6,14 +6,14 @@ use Rattle.lol_script.specs.ReadLines.{is_line_feed}
 use Rattle.lol_script.proofs.LineCuts.{any_none, found_after, none_any}
 use Rattle.lol_script.proofs.line_reader.read_to_line_feed.Goals as goal
 
-pub returns-then-count-eq0-clause-place : goal.returns-then-count-eq0-clause-place
-returns-then-count-eq0-clause-place g c = sym (any_none is_line_feed c.loop-count.bytes.items c.loop-count.invariant.none)
+pub returns-then-count-eq0-clause-offset : goal.returns-then-count-eq0-clause-offset
+returns-then-count-eq0-clause-offset g c = sym (any_none is_line_feed c.loop-count.bytes.items c.loop-count.invariant.none)
 
-pub returns-in-Some-clause-place : goal.returns-in-Some-clause-place
-returns-in-Some-clause-place g c =
+pub returns-in-Some-clause-offset : goal.returns-in-Some-clause-offset
+returns-in-Some-clause-offset g c =
     let more : List ℕ = take c.in_ok-count.count c.read.new.buffer in
     let size : c.len-scanned.result ≡ length c.loop-count.bytes.items = search rules in
-    sym (found_after c.loop-count.bytes.items more c.extend_from_slice.new.self.items _ _ _ c.loop-count.invariant.none c.in-Ok.ensures.items c.deref.ensures.value size c.line_feed_place.ensures ∙ ap (option_map (λ k. c.len-scanned.result + k)) c.in-Some.is)
+    sym (found_after c.loop-count.bytes.items more c.extend_from_slice.new.self.items _ _ _ c.loop-count.invariant.none c.in-Ok.ensures.items c.deref.ensures.value size c.line_feed_offset.ensures ∙ ap (option_map (λ k. c.len-scanned.result + k)) c.in-Some.is)
 
 pub loop-count-preserved : goal.loop-count-preserved
 loop-count-preserved g c =
@@ -26,7 +26,7 @@ loop-count-preserved g c =
         Consumes-trans _ _ _ before.0 more before.1 c.in_ok-count.ensures.bytes.0,
         c.in-Ok.ensures.items ∙ (ap (λ (bytes : List ℕ). bytes ++ more) before.2 ∙ append_assoc c.args.bytes.now.items before.0 more),
       );
-      none = none_any is_line_feed c.extend_from_slice.new.self.items (found_after c.loop-count.bytes.items more c.extend_from_slice.new.self.items _ _ _ c.loop-count.invariant.none c.in-Ok.ensures.items c.deref.ensures.value size c.line_feed_place.ensures ∙ ap (option_map (λ k. c.len-scanned.result + k)) c.in_default-line_feed_place.is);
+      none = none_any is_line_feed c.extend_from_slice.new.self.items (found_after c.loop-count.bytes.items more c.extend_from_slice.new.self.items _ _ _ c.loop-count.invariant.none c.in-Ok.ensures.items c.deref.ensures.value size c.line_feed_offset.ensures ∙ ap (option_map (λ k. c.len-scanned.result + k)) c.in_default-line_feed_offset.is);
       failures = c.in_ok-count.ensures.unchanged ∙ c.loop-count.invariant.failures;
       room = c.read.auto.buffer ∙ c.loop-count.invariant.room;
     }

@@ -8,4 +8,4 @@ use Rattle.lol_script.proofs.lines.cut.Goals as goal
 pub returns-clause-fields : goal.returns-clause-fields
 returns-clause-fields c =
     let bytes = c.args.bytes.now in
-    split_some bytes c.in_ok-place.place (sym c.in_ok-place.ensures) ∙ ap (λ rest. take c.in_ok-place.place bytes ∷ slice_split is_tab rest) (sym (take_rest bytes (c.in_ok-place.place + 1)))
+    split_some bytes c.in_ok-offset.offset (sym c.in_ok-offset.ensures) ∙ ap (λ rest. take c.in_ok-offset.offset bytes ∷ slice_split is_tab rest) (sym (take_rest bytes (c.in_ok-offset.offset + 1)))

@@ -14,8 +14,8 @@ use Rattle.lol_vm.proofs.event_run.take_start.Goals as goal
 whole_instead : (result : Result Bool StartTagError) (error : StartTagError) → result ≡ Err error → (error ≡ refusals.CounterFull → ⊥) → result ≡ Err refusals.CounterFull → ⊥
 whole_instead result error is other full = other cc
 
-pub returns-in-Ok-clause-taken : goal.returns-in-Ok-clause-taken
-returns-in-Ok-clause-taken g c = λ s esi events tag stands named handed.
+pub returns-in-Ok-clause-outcome : goal.returns-in-Ok-clause-outcome
+returns-in-Ok-clause-outcome g c = λ s esi events tag stands named handed.
     (c.in-Ok.ensures.answered s esi events tag stands named (λ asked. subst (λ r. IsHandedOver r tag) c.in-Some.is handed)).1
 
 pub returns-in-Ok-clause-within : goal.returns-in-Ok-clause-within
@@ -51,14 +51,14 @@ limited_instead result error is full = cc
 memory_instead : {E : Type 0} (result : Result (Unit {0}) (VmError E)) (error : AllocError) → result ≡ Err (Memory error) → result ≡ Err CounterFull → ⊥
 memory_instead result error is full = cc
 
-pub returns-in-Ok-exec_for_start_tag-clause-taken : goal.returns-in-Ok-exec_for_start_tag-clause-taken
-returns-in-Ok-exec_for_start_tag-clause-taken g c = λ s esi events tag stands named handed. (c.in-Ok-exec_for_start_tag.ensures.answered s esi events tag stands named).1
+pub returns-in-Ok-exec_for_start_tag-clause-outcome : goal.returns-in-Ok-exec_for_start_tag-clause-outcome
+returns-in-Ok-exec_for_start_tag-clause-outcome g c = λ s esi events tag stands named handed. (c.in-Ok-exec_for_start_tag.ensures.answered s esi events tag stands named).1
 
 pub returns-in-Ok-exec_for_start_tag-clause-within : goal.returns-in-Ok-exec_for_start_tag-clause-within
 returns-in-Ok-exec_for_start_tag-clause-within g c = λ s esi events tag stands named handed opening. (c.in-Ok-exec_for_start_tag.ensures.answered s esi events tag stands named).0 (has_content_if s esi events tag opening)
 
-pub returns-in-Err-InfoRequest-clause-taken : goal.returns-in-Err-InfoRequest-clause-taken
-returns-in-Err-InfoRequest-clause-taken g c = λ s esi events tag stands named handed.
+pub returns-in-Err-InfoRequest-clause-outcome : goal.returns-in-Err-InfoRequest-clause-outcome
+returns-in-Err-InfoRequest-clause-outcome g c = λ s esi events tag stands named handed.
     let is = c.in-Err-InfoRequest.is ∙ ap Err c.in-Err-InfoRequest.field-0-is in
     dropped s esi events tag _ c.args.vm.now c.exec_for_start_tag.new.self _ (c.exec_for_start_tag.ensures.asked _ is s esi events tag stands named) c.in-Err-InfoRequest.ensures.left.unchanged
     c.args.match_handler.now c.exec_for_start_tag.new.match_handler (subst (λ r. IsHandedOver r tag) c.in_default.is handed) (c.exec_for_start_tag.ensures.silent (InfoRequest _) is tt)

@@ -5,15 +5,17 @@ ghost use Rattle.lol_vm.specs.Collecting.{Collects};
 
 use std::alloc::{AllocError, Global};
 
-/// What a handler was called with, up to the first that memory was refused for.
+/// What a handler was called with, up to the first item that no memory was there for. (Not in lol_html.)
 #[derive(Drop)]
-pub(crate) struct Collected<T> {
+pub struct Collected<T> {
     pub items: Vec<T>,
+    /// Whether an item was left out, and all after it.
     pub refused: bool,
 }
 
 impl<T: Drop> Collected<T> {
-    pub(crate) fn new(alloc: Global) -> Self
+    /// No items. It takes no memory.
+    pub fn new(alloc: Global) -> Self
         ensures items { result.items.items ≡ [] }
         ensures refused { result.refused ≡ false }
     {
@@ -24,7 +26,10 @@ impl<T: Drop> Collected<T> {
     }
 
     /// With room for so many items.
-    pub(crate) fn with_capacity(alloc: Global, capacity: usize) -> Result<Self, AllocError>
+    ///
+    /// # Errors
+    /// Out of memory.
+    pub fn with_capacity(alloc: Global, capacity: usize) -> Result<Self, AllocError>
         ensures items { IfOk result (λ collected. collected.items.items ≡ []) }
         ensures refused { IfOk result (λ collected. collected.refused ≡ false) }
     {
@@ -34,7 +39,17 @@ impl<T: Drop> Collected<T> {
         })
     }
 
-    pub(crate) fn keep(&mut self, item: T)
+    /// Lets go what was kept, and keeps the room.
+    pub fn clear(&mut self)
+        ensures items { self.new.items.items ≡ [] }
+        ensures refused { self.new.refused ≡ false }
+    {
+        self.items.clear();
+        self.refused = false;
+    }
+
+    /// Adds an item, unless one was left out before. If memory for it is refused, it is left out.
+    pub fn keep(&mut self, item: T)
         ensures { Collects self.old item self.new }
     {
         if !self.refused && self.items.push(item).is_err() {

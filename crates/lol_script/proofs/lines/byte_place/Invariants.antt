@@ -1,5 +1,0 @@
-use Rattle.memchr.specs.Find.{Nowhere, Passes, is_byte}
-use Rattle.lol_script.proofs.lines.byte_place.Given as goal
-
-abbrev pub invariant-loop-place : goal.invariant-loop-place
-invariant-loop-place l = Nowhere (Passes (is_byte l.byte) l.bytes) 0 l.place
