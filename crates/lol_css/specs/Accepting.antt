@@ -12,9 +12,9 @@ use Rattle.lol_css.specs.declared.selectors.logical.LogicalCombination.TheVarian
 use Rattle.lol_css.specs.declared.error.SelectorError.{SelectorError}
 use Rattle.lol_css.specs.declared.error.SelectorError.TheVariants.{UnsupportedPseudoClassOrElement, UnsupportedCombinator, NamespacedSelector}
 
--- What was read as a selector, or the first thing that is refused: items in written order, in an item the last compound first,
--- then the step on its left, then the compound before, and so on; in a compound the parts in written order, and at a `:not`, `:is`
--- or `:where` its own list, inside which each step is refused.
+-- What was read as a selector, or the first thing that is refused. Items are judged in written order, in an item the last compound first,
+-- then the step on its left, then the compound before, and so on. The parts of a compound are judged in written order, and at a `:not`,
+-- `:is` or `:where` its own list, inside which each step is refused.
 abbrev pub judged_step : Bool → Step → Result Combinator SelectorError
 judged_step true step = Err UnsupportedPseudoClassOrElement
 judged_step false (By combinator) = Ok combinator

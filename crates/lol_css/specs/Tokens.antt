@@ -1,6 +1,6 @@
 -- The tokens of a text: at each place the first fitting row decides, and takes as much as it can (CSS Syntax 3, section 4).
--- Departures from the standard: `~=`, `|=`, `^=`, `$=` and `*=` are tokens of their own (row 8); `<!--`, `@` with a name,
--- colon, semicolon, comma, brackets, parentheses and braces have none, so each of their signs is a Delim (row 9);
+-- Departures from the standard: `~=`, `|=`, `^=`, `$=` and `*=` are tokens of their own (row 8). `<!--`, `@` with a name,
+-- colon, semicolon, comma, brackets, parentheses and braces have none, so each of their signs is a Delim (row 9).
 -- `url(` is an ordinary Function.
 use Rattle.std.specs.Prelude.{ℕ, Bool, ◌&&◌, ◌||◌, ◌==◌, if◌then◌else◌, List, [], ◌∷◌, length, drop, Option, Some, None, ◌++◌}
 use Rattle.std.specs.Option.{option_map}

@@ -56,7 +56,7 @@ impl Selector {
     ///
     /// # Errors
     ///
-    /// Those of `SelectorsParser::parse`.
+    /// The cause for which the text is refused, as `SelectorsParser::parse` tells it.
     pub fn from_str(alloc: Global, text: &str) -> Result<Selector, SelectorError>
         ensures ok { IfOk result (λ selector. accept text.now ≡ Ok (list_of selector)) }
         ensures err { IfErr result (λ cause. (cause ≡ Memory) ⊎ (accept text.now ≡ Err cause)) }

@@ -48,7 +48,7 @@ impl CssString {
         String::from_str(alloc, self.as_str())
     }
 
-    /// The text.
+    /// The text as it is after escapes were read.
     pub fn as_str(&self) -> &str
         ensures { result.now ≡ self.now }
     {

@@ -21,8 +21,8 @@ pub data AttributeKey : Type 0 where
   ByPart : (name part : List ℕ) → AttributeKey
   ByAttribute : (name : List ℕ) → AttributeKey
 
--- The keys of a compound: the name of each element that passes it, in ASCII lower case, if there is one; an id, a class, a part or an
--- attribute that such an element has, if there is one; and whether its value by names is known to be open at each element of that name.
+-- The keys of a compound. The name of each element that passes it, in ASCII lower case, if there is one. An id, a class, a part or an
+-- attribute that such an element has, if there is one. Whether its value by names is known to be open at each element of that name.
 pub record Keys : Type 0 where
   pub name : Option (List ℕ)
   pub attribute : Option AttributeKey

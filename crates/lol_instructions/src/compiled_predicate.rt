@@ -39,7 +39,7 @@ impl CompiledPredicate {
         CompiledPredicate { tests }
     }
 
-    /// Its tests, in order.
+    /// The tests that it was made of, in the order in which they were given.
     pub fn tests(&self) -> &[CompiledTest]
         ensures { result.now ≡ tests_in self.now }
     {

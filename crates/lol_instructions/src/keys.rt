@@ -55,8 +55,8 @@ impl CompiledPredicate {
         None
     }
 
-    /// What each element has that passes: the first id, else the first class, else the last part of the first operand that has one and that
-    /// is compared with case, else the name of the first attribute that is tested, if there is one. Tests inside `:not`, `:is` and `:where`
+    /// What each element has that passes: the first id, else the first class, else a part of a value, else the name of the first attribute
+    /// that is tested, if there is one. The part is the last of the first operand that has one and that is compared with case. Tests inside `:not`, `:is` and `:where`
     /// don't count.
     pub fn attribute_key(&self) -> Option<KeyBytes<'_>>
         ensures { option_map key_shown result ≡ (keys_in self.now).attribute }

@@ -8,24 +8,26 @@ ghost use Rattle.lol_instructions.specs.Marks.{mark_sum, mark_of, is_marked, Kee
 
 use crate::attribute_value::is_white_space;
 
-/// The longest value of `class` whose words are marked one by one.
+/// The longest value of `class` whose words are marked one by one. The words of a longer one would set most of the 64 bits, which then rule
+/// little out, and marking them would cost more than it spares.
 const MAX_MARKED_LEN: usize = 64;
 
-/// One of 64 bits for each attribute name, id and class word. Of what isn't marked it is known that it isn't there.
+/// One of 64 bits for each attribute name, id and class word. Of what isn't marked it is known that it isn't there. Ids and classes are a
+/// third and two thirds of the bits further than names, so an id, a class and a name that are spelled alike have three marks.
 #[derive(Clone, Copy)]
 pub(crate) struct Marks {
     bits: u64,
 }
 
 impl Marks {
-    /// No marks.
+    /// The marks of a tag that has no attribute.
     pub(crate) fn none() -> Self
         ensures { (bit : ℕ) → is_marked result bit ≡ false }
     {
         Marks { bits: 0 }
     }
 
-    /// All marks.
+    /// Marks that rule nothing out.
     fn all() -> Self
         ensures { (bit : ℕ) → bit < 64 → is_marked result bit ≡ true }
     {

@@ -12,7 +12,7 @@ pub struct Tries {
 impl Tries {
     ghost use Rattle.lol_instructions.specs.Tries.{names_counted, attributes_counted};
 
-    /// None yet.
+    /// Both counts are zero.
     pub fn new() -> Self
         ensures names { names_counted result ≡ 0 }
         ensures attributes { attributes_counted result ≡ 0 }

@@ -54,8 +54,8 @@ words_after w (q ∷ qs) = if nat_lt w (q / 32) then words_after (q / 32) qs + 1
 pub record IsDense (s : Ids) : Type 0 where
   pub words : (q : ℕ) → has s q ≡ true → q / 32 < 16 + 4 * words_after 0 (ascending s)
 
--- The set takes the id in the words that it has: the id is among the first 32, or the set has one of its 32 ids, or the set is dense and
--- the word of the id isn't after that of the greatest.
+-- The set takes the id in the words that it has. The id is among the first 32, or the set has one of the 32 ids of its word, or the set
+-- is dense and this word isn't after the last.
 abbrev pub HasRoom : Ids → ℕ → Type 0
 HasRoom s q =
     (q < 32)

@@ -48,8 +48,8 @@ impl DenseHashSet {
         }
     }
 
-    /// Whether the set takes the id without more memory: the id is below 32, or the set has one of the 32 ids of its word, or the set is
-    /// dense and this word isn't after that of its greatest id. It takes no memory. (Not in lol_html.)
+    /// Whether the set takes the id without more memory. It does if the id is below 32, and if the set has one of the 32 ids of its word. A
+    /// dense set also does if this word isn't after that of its greatest id. The call takes no memory. (Not in lol_html.)
     pub fn has_room(&self, id: MatchId) -> bool
         ensures { IsTrue result ↔ HasRoom self.now id }
     {

@@ -11,7 +11,8 @@ use lol_base::LocalName;
 use std::alloc::{AllocError, Global};
 use std::marker::Model;
 
-/// How many names a block has at most.
+/// How many names a block has at most. A name that comes moves half a block on average, and a new block half of the list of blocks: with
+/// 64 neither is long up to some thousands of names.
 const BLOCK_LEN: usize = 64;
 
 /// Values by name. The names stand in ascending order, in blocks of up to `BLOCK_LEN`. A search takes two

@@ -11,11 +11,12 @@ use lol_base::LocalName;
 use std::alloc::{AllocError, Global};
 use std::marker::Model;
 
-/// How many slots a map has.
+/// How many slots a map has. Six bits of a code, which are a name's last letter and a bit of the one before it, tell most names of a page
+/// apart; more slots would be memory that most maps don't fill.
 const SLOT_COUNT: usize = 64;
 
-/// Values by name. Each name has one of `SLOT_COUNT` slots, by the last bits of its code (all names without a code have the last
-/// one), and stands there where the slot was free when it came; otherwise it stands among the ordered blocks. So most names are
+/// Values by name. Each name has one of `SLOT_COUNT` slots, by the last bits of its code; all names without a code have the last one. A
+/// name stands in its slot if that was free when it came, and else among the ordered blocks. So most names are
 /// found by one comparison, and none at more than two binary searches besides, whichever names a page's author picks. A name that is
 /// taken out leaves nothing, and a slot's name moves no other. The slots take memory with the first name.
 #[derive(Drop)]

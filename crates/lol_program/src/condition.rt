@@ -1,4 +1,8 @@
 //! The tests of a selector's parts.
+//!
+//! Which test a part has is written twice: as a test that is made (`from_simple`) and as a comparison with one that is there (`is_of`). A
+//! part is compared with the tests of up to 32 siblings before its own is made; if it were made first, each selector that has a node
+//! already would allocate for one that is thrown away.
 
 ghost use Rattle.std.specs.Prelude.{◌≡◌, ◌↔◌, IfOk, IsTrue, string_bytes};
 ghost use Rattle.std.specs.Option.{option_map};

@@ -39,8 +39,8 @@ pub(crate) fn name_hash(name: Option<&LocalName<'_>>, opens: bool) -> u32
     (hasher.finish() % HASHES) as u32
 }
 
-/// The hashes of the keys that an instruction may have which a start tag of this name leaves by its name: of no name and of its own, each
-/// where the instruction isn't known to need attributes, and where it is.
+/// The hashes of the keys that an instruction may have which a start tag of this name leaves by its name. They are of no name and of its
+/// own, each for instructions that aren't known to need attributes and for those that are.
 pub fn name_hashes(local_name: &LocalName<'_>) -> [u32; 4]
     ensures { result ≡ name_hashes local_name.now.lowercased }
 {

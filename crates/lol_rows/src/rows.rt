@@ -91,9 +91,8 @@ impl Rows {
         false
     }
 
-    /// Adds the hashes of what a start tag of this name and with these attributes leaves: of no name and of its own, each with no key, with
-    /// its id, with each of its classes, with the name of each of its attributes, and with the parts of their values, as far as an
-    /// instruction has one of these. It takes a step for each byte of these, and sorts the hashes where they are many.
+    /// Adds the hashes of what a start tag of this name and with these attributes leaves. They are of no name and of its own, each with no
+    /// key, with its id, its classes, the names of its attributes, and the parts of their values, if an instruction has such a part. It takes a step for each byte of these, and sorts the hashes where they are many.
     ///
     /// # Errors
     /// Out of memory.
@@ -115,9 +114,9 @@ impl Rows {
     /// Adds, ascending, the addresses of a range whose instructions a start tag leaves: that test no other name, and, where its attributes
     /// are given, no id, class or attribute that they lack. `found` is room for what is looked up.
     ///
-    /// For `n` instructions it takes a logarithm of `n` and a look at the keys of one instruction for each hash, a look at each one whose
-    /// hash several keys have, and `m log m` steps for `m` addresses that are added; where the range is short, or memory for the hashes or
-    /// for `found` was refused, a look at each of the range.
+    /// For each hash it takes a logarithm of the number of instructions and a look at the keys of one of them, or of each whose hash several
+    /// keys have. `m` addresses that are added take `m log m` steps. If the range is short, or memory for the hashes or for `found` was
+    /// refused, it looks at each of the range.
     ///
     /// # Errors
     /// Out of memory, but not where `left` has room for what is added.

@@ -16,8 +16,8 @@ use lol_instructions::{AttributeMatcher, KeyBytes, PART_LENGTH, first_word};
 use std::alloc::AllocError;
 use std::hash::DefaultHasher;
 
-/// Adds the hashes of the pairs of keys that an instruction may have which a start tag of this name and with these attributes leaves: of no
-/// name and of its own, each with no key, with its id, with each of its classes and with the name of each of its attributes. It takes a
+/// Adds the hashes of the pairs of keys that an instruction may have which a start tag of this name and with these attributes leaves. They
+/// are of no name and of its own, each with no key, with its id, its classes and the names of its attributes. It takes a
 /// step for each byte of these.
 ///
 /// # Errors

@@ -9,7 +9,7 @@ use std::alloc::{AllocError, Global};
 use std::collections::BTreeSet;
 use std::marker::Model;
 
-/// The ranges of an element that has no more of them are looked up one by one; for more a set is made.
+/// The ranges of an element that has no more of them are looked up one by one; for more a set is made, which so few wouldn't repay.
 const FEW: usize = 128;
 
 /// The distinct hereditary ranges of the open elements, in the order in which they first came, each with the place of the first element

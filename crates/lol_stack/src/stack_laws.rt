@@ -4,7 +4,7 @@ ghost use Rattle.lol_stack.specs.TypedLaws.{CountingAddsOne, CountsAtTheirLevel,
 ghost use Rattle.lol_stack.specs.LevelledStacks.{NewHasLevels, CountingKeepsLevels, OpeningKeepsLevels, ClosingKeepsLevels, SameHasLevels};
 ghost use Rattle.lol_stack.specs.SoundStacks.{NewIsSound, CountingKeepsSound, OpeningKeepsSound, ClosingKeepsSound, SameIsSound, DataKeepSound, EndsAtLast};
 
-/// The active ranges of a stack are those of its open elements, and the places of each name are theirs: so it is of a new stack, and
+/// The active ranges of a stack are those of its open elements, and the places of each name are theirs. So it is of a new stack, and
 /// counting a child, opening an element, closing elements, refused calls and other data of the last element keep it so.
 pub fn stacks_keep_their_lists<E>()
     ensures new { NewIsSound E }
@@ -28,7 +28,7 @@ pub fn typed_counts_are_a_function()
     ensures found { CountsAtTheirLevel }
 {}
 
-/// The levels of counters by type don't fall in the order in which the counters were started, and those of each name rise strictly: so
+/// The levels of counters by type don't fall in the order in which the counters were started, and those of each name rise strictly. So
 /// it is where there are none, and counting at a level that none is above and cutting keep it so. `typed_counts_are_a_function` wants no
 /// more. A cut leaves exactly the counters whose level isn't above.
 pub fn typed_levels_climb()

@@ -30,8 +30,8 @@ exact_names =
 abbrev pub compared_with : List ℕ → List ℕ → List ℕ
 compared_with name rest = codes "[" ++ name ++ codes "=" ++ rest ++ codes "]"
 
--- What elements of HTML, SVG and MathML are reported under that have the attribute with the value `text`: it is compared with `TEXT`,
--- without a flag, under 0, with the flag `s` under 1, and with the flag `i` under 2, and with `text` under 3.
+-- What elements of HTML, SVG and MathML are reported under that have the attribute with the value `text`. It is compared with `TEXT`:
+-- without a flag under 0, with the flag `s` under 1, and with the flag `i` under 2. Under 3 it is compared with `text`.
 abbrev pub reported : List ℕ → List (List ℕ)
 reported name =
     told ((compared_with name (codes "TEXT"), 0) ∷ (compared_with name (codes "TEXT s"), 1) ∷ (compared_with name (codes "TEXT i"), 2) ∷ (compared_with name (codes "text"), 3) ∷ [])

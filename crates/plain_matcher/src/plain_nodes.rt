@@ -46,7 +46,7 @@ pub(crate) fn list_nodes<'t>(
     Ok(())
 }
 
-/// The same of one node.
+/// Lists a node, and then the nodes under it.
 #[cycle(listing)]
 fn list_node<'t>(
     alloc: Global,

@@ -1,7 +1,7 @@
 //! Texts that are read, and texts that are refused for each cause.
 //!
-//! They are a part of 4,308 texts, and of 4,697 later ones, that a slow model of the grammar answered, written apart from this project
-//! (it draws signs, names and brackets at random). lol_html answers them alike wherever it has the same rules; it doesn't know `:is` and
+//! They are a part of 4,308 texts, and of 4,697 later ones, which draw signs, names and brackets at random. A slow model of the grammar,
+//! written apart from this project, answered them. lol_html answers them alike wherever it has the same rules; it doesn't know `:is` and
 //! `:where`. `SelectorsParser::parse` read each of them once, again with the same answers.
 
 use lol_css::{SelectorError, SelectorsParser};

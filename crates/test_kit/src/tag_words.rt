@@ -4,8 +4,8 @@ use crate::attributes::written_attributes;
 use lol_base::{Attributes, Namespace};
 use std::alloc::{AllocError, Global};
 
-/// A tag. As a word it is its name: after `/` for an end tag, after `svg:` or `math:` in another namespace, with `@name` or `@name=value`
-/// for an attribute, then with `/` where it closes itself, and with `!` where its attributes aren't handed over.
+/// A tag. As a word it is its name, after `/` for an end tag, and after `svg:` or `math:` in another namespace. `@name` or `@name=value`
+/// after it is an attribute. At the end `/` says that it closes itself, and `!` that its attributes aren't handed over.
 #[derive(Clone, Copy)]
 pub struct TagWord<'t> {
     pub ends: bool,

@@ -45,8 +45,8 @@ pub extern "C" fn zugrenja_new_explaining(
     }
 }
 
-/// Why the last tag was reported: a reason for each item that matches its element, in the order of adding and of the list, and the numbers
-/// of the start tags whose elements its compounds are passed by, the outermost first, reason after reason. Both are written as far as there
+/// Why the last tag was reported: a reason for each item that matches its element, in the order of adding and of the list. With it come the
+/// numbers of the start tags whose elements its compounds are passed by, the outermost first, reason after reason. Both are written as far as there
 /// is room, and `reasons_count` and `numbers_count` are how many there are. Takes memory for the answer.
 #[unsafe(no_mangle)]
 pub extern "C" fn zugrenja_explain(
