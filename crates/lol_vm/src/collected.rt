@@ -1,6 +1,6 @@
 //! What a handler was called with.
 
-ghost use Rattle.std.specs.Prelude.{◌≡◌, [], false, IfOk};
+ghost use Rattle.std.specs.Prelude.{◌≡◌, [], true, false, IfOk};
 ghost use Rattle.lol_vm.specs.Collecting.{Collects};
 
 use std::alloc::{AllocError, Global};
@@ -50,7 +50,8 @@ impl<T: Drop> Collected<T> {
 
     /// Adds an item, unless one was left out before. If memory for it is refused, it is left out.
     pub fn keep(&mut self, item: T)
-        ensures { Collects self.old item self.new }
+        ensures collects { Collects self.old item self.new }
+        ensures left { self.new.refused ≡ true → self.new.items.items ≡ self.old.items.items }
     {
         if !self.refused && self.items.push(item).is_err() {
             self.refused = true;
