@@ -205,7 +205,7 @@ def copy_source(fault: SourceFault, folder: str) -> None:
     """Copies what `rt try` reads, and puts the fault into the copy."""
     for name in ("crates.txt", "HANDLES"):
         shutil.copy(os.path.join(ROOT, name), folder)
-    unread = shutil.ignore_patterns("out", "specs", "proofs", "must-fail")
+    unread = shutil.ignore_patterns("out", "specs", "proofs", "must-fail", "wrong-bodies")
     shutil.copytree(os.path.join(ROOT, "crates"), os.path.join(folder, "crates"), ignore=unread)
     for edit in fault.edits:
         path = os.path.join(folder, "crates", edit.file)

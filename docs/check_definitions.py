@@ -225,7 +225,7 @@ def rows_that_refuse(change, repository, base, folder):
 def tests_that_refuse(change, repository, folder):
     """The tests that changed code fails."""
     crates = f"{folder}/crates"
-    shutil.copytree(f"{repository}/crates", crates, ignore=shutil.ignore_patterns("out", "must-fail"))
+    shutil.copytree(f"{repository}/crates", crates, ignore=shutil.ignore_patterns("out", "must-fail", "wrong-bodies"))
     shutil.copy(f"{repository}/crates.txt", folder)
     change.apply("code", f"{repository}/crates", lambda path, text: write(f"{crates}/{path}", text))
     told = rt(f"{crates}/{change.tests}", "try", "--test")

@@ -1,10 +1,13 @@
 #!/usr/bin/env python3
-"""Tries the wrong bodies, crates/NAME/must-fail/FILE.FUNCTION.WHAT_IS_WRONG.edit, many in one check: the prover must refuse each.
+"""Tries the wrong bodies, FILE.FUNCTION.WHAT_IS_WRONG.edit in crates/NAME/must-fail and crates/NAME/wrong-bodies, many in one check: the prover
+must refuse each. Those of must-fail are tried by `rt ci` too, each by itself.
 
     python3 docs/wrong_bodies.py                     all of them, over the libraries that `rt ci` left
     python3 docs/wrong_bodies.py lol_css lol_vm      those of these crates, over what `rt check` left too
     python3 docs/wrong_bodies.py --only limiter      those whose name has this word
+    python3 docs/wrong_bodies.py --beside            those that `rt ci` doesn't try
     python3 docs/wrong_bodies.py --singly            each in a check of its own
+    python3 docs/wrong_bodies.py --read              reads them alone: each says what it changes, and the sources have that once
     python3 docs/wrong_bodies.py --page              all, and writes the table of docs/EDITS.md from what refused them
 
 An edit is a line 'file: src/..', then pairs of lines 'old: ' and 'new: '; each 'old:' stands once in that file. An edit of a constant names the
@@ -28,6 +31,7 @@ from pathlib import Path
 import crates
 
 PAGE = crates.ROOT / "docs/EDITS.md"
+GATE, BESIDE = "must-fail", "wrong-bodies"
 # So many wrong bodies are tried in a check of their functions and of what these call, more in one of the whole crate.
 FEW = 8
 # What a check takes of memory at most, in KiB.
@@ -54,6 +58,8 @@ class WrongBody:
 
     crate: str
     name: str
+    # whether `rt ci` tries it too
+    is_in_gate: bool
     # files, and what stands there once, and what is put in its place
     changes: list[tuple[str, str, str]]
     # the lines that are changed, counted from 0
@@ -91,7 +97,7 @@ def read(path: Path) -> WrongBody:
         elif line.startswith("new:"):
             changes.append((file, old, line.removeprefix("new:").removeprefix(" ")))
     owner, _, function = told.rpartition("::")
-    body = WrongBody(path.parent.parent.name, path.stem, changes, owner=owner, function=function)
+    body = WrongBody(path.parent.parent.name, path.stem, path.parent.name == GATE, changes, owner=owner, function=function)
     if not changes or any(not file.startswith("src/") for file, _, _ in changes):
         body.fault = "it changes no file of src/"
     return body
@@ -295,7 +301,7 @@ def write_page(bodies: list[WrongBody]) -> None:
         for body in (it for it in bodies if it.crate == crate):
             rows.setdefault(body.name.rpartition(".")[0] or body.name, []).append(body)
         for function, row in sorted(rows.items()):
-            told = [(body, body.name.split(".")[-1].replace("_", " ")) for body in row]
+            told = [(body, ("{}" if body.is_in_gate else "*{}*").format(body.name.split(".")[-1].replace("_", " "))) for body in row]
             by_clause = [name for body, name in told if body.kind == "clause"]
             others = [f"{name} ({body.kind} `{body.refused_by}`)" for body, name in told if body.kind != "clause"]
             lines.append(f"| `{function}` | {'; '.join(by_clause)} | {'; '.join(others)} |")
@@ -309,25 +315,19 @@ def lanes() -> int:
     return max(1, min(len(os.sched_getaffinity(0)), int(available[1]) // CHECK_KIB))
 
 
-def main() -> int:
-    words = argparse.ArgumentParser(description="Tries wrong bodies: the prover must refuse each.")
-    words.add_argument("crates", nargs="*")
-    words.add_argument("--only", default="")
-    words.add_argument("--singly", action="store_true")
-    words.add_argument("--page", action="store_true")
-    words.add_argument("--jobs", type=int, default=lanes())
-    given = words.parse_args()
-    if given.page and (given.crates or given.only):
-        words.error("--page writes the whole table, so it takes no crates and no --only")
-    rows = crates.rows()
-    tried = []
-    for name in rows:
-        bodies = [read(path) for path in sorted((crates.ROOT / "crates" / name).glob("must-fail/*.edit"))]
-        bodies = [body for body in bodies if given.only in body.name and (not given.crates or name in given.crates)]
-        for body in bodies:
-            locate(body, crates.ROOT / "crates" / name)
-        if bodies:
-            tried.append(Crate(name, rows, bodies))
+def bodies_of(name: str, given: argparse.Namespace) -> list[WrongBody]:
+    """The wrong bodies of a crate that are to be tried, each with the function that it changes."""
+    folder = crates.ROOT / "crates" / name
+    paths = [path for part in ([BESIDE] if given.beside else [GATE, BESIDE]) for path in (folder / part).glob("*.edit")]
+    bodies = [read(path) for path in sorted(paths, key=lambda path: path.name)]
+    bodies = [body for body in bodies if given.only in body.name and (not given.crates or name in given.crates)]
+    for body in bodies:
+        locate(body, folder)
+    return bodies
+
+
+def try_crates(tried: list[Crate], rows: dict[str, list[str]], given: argparse.Namespace) -> None:
+    """Tries the wrong bodies of these crates side by side, the greatest crate first."""
     below = {library for crate in tried for library in crates.libraries(rows, crate.name)}
     stale = sorted(library for library in below if not crates.is_left(library) and not crates.is_built(library))
     if stale:
@@ -336,13 +336,32 @@ def main() -> int:
     with ThreadPoolExecutor(given.jobs) as pool:
         for _ in pool.map(lambda crate: crate.try_all(given.singly), sorted(tried, key=size, reverse=True)):
             pass
+
+
+def main() -> int:
+    words = argparse.ArgumentParser(description="Tries wrong bodies: the prover must refuse each.")
+    words.add_argument("crates", nargs="*")
+    words.add_argument("--only", default="")
+    words.add_argument("--beside", action="store_true")
+    words.add_argument("--singly", action="store_true")
+    words.add_argument("--read", action="store_true")
+    words.add_argument("--page", action="store_true")
+    words.add_argument("--jobs", type=int, default=lanes())
+    given = words.parse_args()
+    if given.page and (given.crates or given.only or given.beside or given.read):
+        words.error("--page writes the whole table, so it takes no crates, no --only, no --beside and no --read")
+    rows = crates.rows()
+    tried = [Crate(name, rows, bodies) for name in rows if (bodies := bodies_of(name, given))]
+    if not given.read:
+        try_crates(tried, rows, given)
     bodies = [body for crate in tried for body in crate.bodies]
     for body in bodies:
-        print(f"{body.crate}/{body.name}: {body.fault or f'refused, by {body.kind} {body.refused_by}'}")
+        if body.fault or not given.read:
+            print(f"{body.crate}/{body.name}: {body.fault or f'refused, by {body.kind} {body.refused_by}'}")
     failed = [body for body in bodies if body.fault]
     if given.page and not failed:
         write_page(bodies)
-    print(f"{len(bodies) - len(failed)} passed, {len(failed)} failed")
+    print(f"{len(bodies) - len(failed)} {'read' if given.read else 'passed'}, {len(failed)} failed")
     return 1 if failed or not bodies else 0
 
 
