@@ -261,10 +261,17 @@ def main():
     arguments.add_argument("--rows", action="store_true")
     arguments.add_argument("--tests", action="store_true")
     arguments.add_argument("--table", action="store_true")
+    arguments.add_argument("--read", action="store_true")
     given = arguments.parse_args()
     blocks = re.split(r"\n\s*\n", read(given.changes).strip())
     changes = [Change(block) for block in blocks if not block.startswith("#")]
     changes = [change for change in changes if given.only in f"{change.section} {change.change}"]
+    if given.read:
+        for change in changes:
+            for kind in change.edits:
+                change.apply(kind, f"{given.repository}/crates", lambda path, text: None)
+        print(f"{len(changes)} changes can be made")
+        return
     base = f"{given.scratch}/unchanged"
     if given.tests:
         changes = [change for change in changes if change.tests]
