@@ -20,7 +20,7 @@ const fn start(name: &'static str, attributes: &'static [(&'static str, &'static
 }
 
 /// The pieces of the page, in order.
-pub fn pieces() -> [Piece; 36] {
+pub(crate) fn pieces() -> [Piece; 36] {
     [
         start("main", &[("class", "page")]),
         start("h1", &[]),
