@@ -68,8 +68,8 @@ SOURCE_FAULTS = [
     SourceFault("names of attributes are compared with case", "lol_instructions: is_lower_case_of",
                 [Edit("lol_instructions/src/attribute_matcher.rt", "actual.to_ascii_lowercase() == byte", "false")]),
     SourceFault("the outermost of equal names is closed", "lol_stack: element_to_close",
-                [Edit(STACK, "let (place, _) = self.names.open_names.places_at(at).split_last()?;",
-                      "let (place, _) = self.names.open_names.places_at(at).split_first()?;")]),
+                [Edit(STACK, "let (depth, _) = self.names.open_names.depths_at(at).split_last()?;",
+                      "let (depth, _) = self.names.open_names.depths_at(at).split_first()?;")]),
     SourceFault("an id is reported once for each of two paths", "lol_stack: handle_matched_ids", [
         Edit(CONTEXT, "    pub enable_esi_tags: bool,\n}",
              "    pub enable_esi_tags: bool,\n    again: DenseHashSet,\n}"),

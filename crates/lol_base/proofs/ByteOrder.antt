@@ -1,4 +1,4 @@
--- The order of bytes in lower case, place by place.
+-- The order of bytes in lower case, byte by byte.
 use Rattle.std.proofs.Common.{◌≡◌, ◌∙◌, sym, true≢false, true, false, not, refl, ap, ℕ, zero, suc, ◌+◌, ◌<◌, List, [], ◌∷◌, length, get_or, drop, min, arith, add-one, drop-cons}
 use Rattle.std.proofs.lemmas.Bool.Decides.{nat_tests}
 use Rattle.std.specs.Char.{to_ascii_lowercase}
@@ -13,7 +13,7 @@ use Rattle.lol_base.specs.Names.{lowercased}
 abbrev pub cmp_from : ℕ → List ℕ → List ℕ → Ordering
 cmp_from at xs ys = slice_cmp nat_cmp (lowercased (drop at xs)) (lowercased (drop at ys))
 
--- the bytes at one place decide, and else those after it
+-- the bytes at one offset decide, and else those after it
 pub cmp_from-step : (xs ys : List ℕ) (at : ℕ) → at < length xs → at < length ys
     → cmp_from at xs ys ≡ ordering_then (nat_cmp (to_ascii_lowercase (get_or xs at 0)) (to_ascii_lowercase (get_or ys at 0))) (cmp_from (at + 1) xs ys)
 cmp_from-step xs ys at h k = rw (drop-cons xs at 0 h, drop-cons ys at 0 k, add-one at) refl

@@ -5,7 +5,7 @@ use Rattle.std.specs.Prelude.{ℕ, ◌≡◌, ◌<◌, ◌↔◌, if◌then◌el
 abbrev pub IsStrictlyAscending : List ℕ → Type 0
 IsStrictlyAscending ns = AllPairs (λ m n. m < n) ns
 
--- an ascending list with a number in its place, unless it is there
+-- an ascending list with a number where it belongs, unless it is there
 abbrev pub with_number : ℕ → List ℕ → List ℕ
 with_number n [] = n ∷ []
 with_number n (x ∷ xs) = if nat_lt n x then n ∷ x ∷ xs else (if n == x then x ∷ xs else x ∷ with_number n xs)

@@ -79,11 +79,11 @@ reverse-map f [] = refl
 reverse-map f (x ∷ xs) =
     reverse-append (f x ∷ []) (map f xs) ∙ ap (λ l. l ++ f x ∷ []) (reverse-map f xs) ∙ sym (map-append f (reverse xs) (x ∷ [])) ∙ ap (map f) (sym (reverse-append (x ∷ []) xs))
 
--- the first place at which a mapped list passes
+-- the first index at which a mapped list passes
 module _ {A B : Type 0} (p : B → Bool) (f : A → B) where
-  place-map : (xs : List A) → position_or_len p (map f xs) ≡ position_or_len (λ x. p (f x)) xs
-  place-map [] = refl
-  place-map (x ∷ xs) = λ i. cond (not (p (f x))) (1 + place-map xs i) 0
+  index-map : (xs : List A) → position_or_len p (map f xs) ≡ position_or_len (λ x. p (f x)) xs
+  index-map [] = refl
+  index-map (x ∷ xs) = λ i. cond (not (p (f x))) (1 + index-map xs i) 0
 
   pub position-map : (xs : List A) → position p (map f xs) ≡ position (λ x. p (f x)) xs
-  position-map xs = λ i. cond (nat_lt (place-map xs i) (length-map xs f i)) (Some (place-map xs i)) None
+  position-map xs = λ i. cond (nat_lt (index-map xs i) (length-map xs f i)) (Some (index-map xs i)) None

@@ -1,4 +1,4 @@
-//! Borrowed input and places in it.
+//! Borrowed input and ranges of it.
 
 ghost use Rattle.std.specs.Prelude.{◌≡◌, ◌↔◌, IsTrue};
 ghost use Rattle.std.specs.Option.{option_map, ForSome};

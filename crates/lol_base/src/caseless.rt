@@ -31,8 +31,8 @@ fn are_equal(a: &[u8], b: &[u8]) -> bool
     ensures { IsTrue result ↔ (lowercased a.now ≡ lowercased b.now) }
 {
     let mut equal = true;
-    for place in 0..a.len() {
-        equal &= a[place].to_ascii_lowercase() == b[place].to_ascii_lowercase();
+    for offset in 0..a.len() {
+        equal &= a[offset].to_ascii_lowercase() == b[offset].to_ascii_lowercase();
     }
     equal
 }

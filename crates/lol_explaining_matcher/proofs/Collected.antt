@@ -21,7 +21,7 @@ use Rattle.lol_vm.specs.Answers.{matching_ids}
 use Rattle.lol_reasons.specs.Explanations.{Reason, Text, added_by, reasons}
 use Rattle.lol_reasons.specs.Numbered.{HasItemsOf}
 use Rattle.lol_reasons.specs.NumberingLaws.{NumbersNameWhatMatches}
-use Rattle.lol_reasons.specs.ReasonLaws.{EachHasOneReason, ids_of_reasons, place_of_added, place_of_reason}
+use Rattle.lol_reasons.specs.ReasonLaws.{EachHasOneReason, ids_of_reasons, source_of_added, source_of_reason}
 use Rattle.lol_explaining_matcher.specs.Explaining.{HasIds, ids_under, numbers_in}
 
 -- 1. Sets of ids
@@ -76,14 +76,14 @@ ids_named items (n ∷ numbers) = by_item (slice_get items n) (ids_named items n
     by_item None later = later
     by_item (Some item) later = ap (λ ids. item.0 ∷ ids) later
 
-ids_placed : (rs : List Reason) → map (λ (item : ℕ × ℕ × ℕ). item.0) (map place_of_reason rs) ≡ ids_of_reasons rs
+ids_placed : (rs : List Reason) → map (λ (item : ℕ × ℕ × ℕ). item.0) (map source_of_reason rs) ≡ ids_of_reasons rs
 ids_placed [] = refl
 ids_placed (r ∷ rs) = ap (λ ids. r.id ∷ ids) (ids_placed rs)
 
 pub numbers_give_ids : NumbersNameWhatMatches → EachHasOneReason → (ts : List Text) (s : Selectors) → HasItemsOf ts s → (e : Element) (outer : List Element)
-    → ids_under (map place_of_added (added_by ts)) (matching_ids s.pairs e outer) ≡ ids_of_reasons (reasons (added_by ts) e outer)
+    → ids_under (map source_of_added (added_by ts)) (matching_ids s.pairs e outer) ≡ ids_of_reasons (reasons (added_by ts) e outer)
 numbers_give_ids named one ts s has e outer =
-    ids_named (map place_of_added (added_by ts)) (matching_ids s.pairs e outer)
+    ids_named (map source_of_added (added_by ts)) (matching_ids s.pairs e outer)
     ∙ (ap (map (λ (item : ℕ × ℕ × ℕ). item.0)) (named ts s has e outer ∙ sym (one (added_by ts) e outer)) ∙ ids_placed (reasons (added_by ts) e outer))
 
 -- 3. What the iterator of a set yields

@@ -20,7 +20,7 @@ use Rattle.lol_base.specs.Ascending.{ascending_once}
 use Rattle.lol_vm.specs.Answers.{after, answer, asks, document, document_from, is_dropped, report}
 use Rattle.lol_vm.specs.AnswerLaws.{document_push}
 use Rattle.lol_run_laws.specs.AskedRuns.{bare_tag, told_of}
-use Rattle.lol_vm.specs.Documents.{Document, empty, element_of, outer_part, inner_part, place_of}
+use Rattle.lol_vm.specs.Documents.{Document, empty, element_of, outer_part, inner_part, index_of}
 use Rattle.lol_vm.specs.Events.{Event, Start, End, has_content, has_content_in}
 use Rattle.lol_vm.specs.Laws.{ids_of}
 use Rattle.lol_vm.specs.Views.{match_of, selectors}
@@ -110,18 +110,18 @@ rest_numbered front rest numbers is =
     let all : numbers ≡ reverse rest ++ reverse front = sym (reverse-reverse numbers) ∙ ap reverse (sym is) ∙ reverse-append front rest in
     sym (reverse-reverse rest) ∙ sym (ap (λ l. reverse (take (length rest) l)) all ∙ ap reverse (take_at (reverse rest) (reverse front) (length rest) (length-reverse rest)))
 
-parts_are : (place : Option ℕ) (elements : List Element) → inner_part place elements ++ outer_part place elements ≡ elements
+parts_are : (index : Option ℕ) (elements : List Element) → inner_part index elements ++ outer_part index elements ≡ elements
 parts_are None elements = refl
-parts_are (Some place) elements = take-append-drop (place + 1) elements
+parts_are (Some index) elements = take-append-drop (index + 1) elements
 
 -- those that an end tag leaves open
 pub left_numbered : (name : List ℕ) (elements : List Element) (numbers : List ℕ) (n : ℕ) → n ≡ length (open_after name elements) → numbers_open elements ≡ reverse numbers
     → numbers_open (open_after name elements) ≡ reverse (take n numbers)
 left_numbered name elements numbers n many are =
-    let place = place_of name elements in
-    let split : numbers_open (inner_part place elements) ++ numbers_open (open_after name elements) ≡ reverse numbers =
-    sym (map-append (λ (e : Element). e.number) (inner_part place elements) (outer_part place elements)) ∙ ap numbers_open (parts_are place elements) ∙ are in
-    rest_numbered (numbers_open (inner_part place elements)) (numbers_open (open_after name elements)) numbers split
+    let index = index_of name elements in
+    let split : numbers_open (inner_part index elements) ++ numbers_open (open_after name elements) ≡ reverse numbers =
+    sym (map-append (λ (e : Element). e.number) (inner_part index elements) (outer_part index elements)) ∙ ap numbers_open (parts_are index elements) ∙ are in
+    rest_numbered (numbers_open (inner_part index elements)) (numbers_open (open_after name elements)) numbers split
     ∙ ap (λ k. reverse (take k numbers)) (length-map (open_after name elements) (λ (e : Element). e.number) ∙ sym many)
 
 -- as many data as elements are open

@@ -21,7 +21,7 @@ use Rattle.lol_matcher.specs.Told.{Matching, elements_of, heard}
 use Rattle.lol_reasons.specs.Explanations.{Added, Text, added_by, explanations, explanations_from, pairs_added, reasons, reasons_at}
 use Rattle.lol_reasons.specs.Numbered.{HasItemsOf}
 use Rattle.lol_reasons.specs.NumberingLaws.{GoesAlike, RunsAlike, SameNodes, reporting}
-use Rattle.lol_reasons.specs.ReasonLaws.{ids_of_reasons, place_of_added}
+use Rattle.lol_reasons.specs.ReasonLaws.{ids_of_reasons, source_of_added}
 use Rattle.lol_explaining_matcher.specs.Explaining.{ids_under, matches_under, numbers_in, report_under}
 use Rattle.lol_explaining_matcher.specs.Plain.{HasTries, IsShownPlainly, last_answer, last_opens, last_or, matches_in, opens_by, opens_from, plain_selectors}
 use Rattle.lol_explaining_matcher.specs.PlainLaws.{LawsHold}
@@ -141,7 +141,7 @@ module _ (laws : LawsHold) (texts : List Text) (n : Selectors) (same : SameNodes
   same_pairs : SameMembers p.pairs (pairs_added (added_by texts))
   same_pairs = subst (SameMembers p.pairs) (sym (laws.pairs_are_added texts)) (λ x. (λ h. h, λ h. h))
 
-  module _ (has : HasItemsOf texts n) (items : List (ℕ × ℕ × ℕ)) (known : items ≡ map place_of_added (added_by texts)) where
+  module _ (has : HasItemsOf texts n) (items : List (ℕ × ℕ × ℕ)) (known : items ≡ map source_of_added (added_by texts)) where
     module _ (d : Document) (tag : StartTag) (infos : List MatchInfo) (asked : Bool) (x y : ℕ) (is : answer n esi d (Start tag) ≡ Started (map match_of infos) asked x y) where
       abbrev e : Element
       e = element_of d tag

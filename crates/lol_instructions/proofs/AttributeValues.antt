@@ -91,7 +91,7 @@ any_word false value test = refl
 pub has_word_in-Includes : (case : CaseSensitivity) (value operand : List ℕ) → has_word_in case value operand ≡ value_holds Includes case value operand
 has_word_in-Includes case value operand = any_word (ignores case) value (λ word. bytes_eq word (compared (ignores case) operand))
 
--- no byte from a place up to another is white space
+-- no byte from an offset up to another is white space
 abbrev pub NoWhite : List ℕ → ℕ → ℕ → Type 0
 NoWhite value start end = (k : ℕ) → start ≤ k → k < end → is_white (get_or value k 0) ≡ false
 
@@ -213,13 +213,13 @@ occurs_from_starts hay needle starts =
 occurs_later : (b : ℕ) (hay needle : List ℕ) (at : ℕ) → OccursAt hay needle at → OccursAt (b ∷ hay) needle (suc at)
 occurs_later b hay needle at occurs = record {
   fits = omega (arith, occurs.fits);
-  reads = λ j below. let place : suc at + j ≡ suc (at + j) = omega arith in ap (λ (k : ℕ). get_or (b ∷ hay) k 0) place ∙ occurs.reads j below;
+  reads = λ j below. let offset : suc at + j ≡ suc (at + j) = omega arith in ap (λ (k : ℕ). get_or (b ∷ hay) k 0) offset ∙ occurs.reads j below;
 }
 
 occurs_before : (b : ℕ) (hay needle : List ℕ) (at : ℕ) → OccursAt (b ∷ hay) needle (suc at) → OccursAt hay needle at
 occurs_before b hay needle at occurs = record {
   fits = omega (arith, occurs.fits);
-  reads = λ j below. let place : suc (at + j) ≡ suc at + j = omega arith in ap (λ (k : ℕ). get_or (b ∷ hay) k 0) place ∙ occurs.reads j below;
+  reads = λ j below. let offset : suc (at + j) ≡ suc at + j = omega arith in ap (λ (k : ℕ). get_or (b ∷ hay) k 0) offset ∙ occurs.reads j below;
 }
 
 -- a part that occurs somewhere stands in the list
@@ -287,18 +287,18 @@ letter_here first (b ∷ hay) rest zero within none passes =
 letter_here first (b ∷ hay) rest (suc at) within none passes =
     other_letter first b hay rest (none 0 (omega arith) (omega arith)) ∙ letter_here first hay rest at (omega arith) (later_letter first b hay at none) passes
 
-pub letter_found : (first place : ℕ) (value left : List ℕ) → IsFirstByte (is_letter_of AsciiCaseInsensitive first) value (Some place) → left ≡ drop (place + 1) value → IsAfterLetter first value (Some left)
-letter_found first place value left found left_is =
-    let left_after : left ≡ drop (suc place) value = left_is ∙ ap (λ (n : ℕ). drop n value) (add-one place) in
+pub letter_found : (first offset : ℕ) (value left : List ℕ) → IsFirstByte (is_letter_of AsciiCaseInsensitive first) value (Some offset) → left ≡ drop (offset + 1) value → IsAfterLetter first value (Some left)
+letter_found first offset value left found left_is =
+    let left_after : left ≡ drop (suc offset) value = left_is ∙ ap (λ (n : ℕ). drop n value) (add-one offset) in
     let high = found.0.high in (
-      omega (arith, ap length left_after, length-drop (suc place) value),
-      λ rest. rw left_after (letter_here first value rest place high found.0.before found.1),
+      omega (arith, ap length left_after, length-drop (suc offset) value),
+      λ rest. rw left_after (letter_here first value rest offset high found.0.before found.1),
     )
 
--- 7. The place of a letter in what is left
+-- 7. The offset of a letter in what is left
 
-no_letter_before : (case : CaseSensitivity) (value : List ℕ) (letter from place to : ℕ) → Nowhere (Passes (is_letter_of case letter) (drop from value)) 0 place → to ≤ from + place → NoLetter case value letter from to
-no_letter_before case value letter from place to none within k low high =
+no_letter_before : (case : CaseSensitivity) (value : List ℕ) (letter from offset to : ℕ) → Nowhere (Passes (is_letter_of case letter) (drop from value)) 0 offset → to ≤ from + offset → NoLetter case value letter from to
+no_letter_before case value letter from offset to none within k low high =
     let at : from + (k - from) ≡ k = omega arith in
     ⊎_elim
     (λ yes. absurd (none (k - from) (omega arith) (omega arith) (ap (is_letter_of case letter) (get_or-drop from value (k - from) 0 ∙ ap (λ (i : ℕ). get_or value i 0) at) ∙ yes)))
@@ -308,12 +308,12 @@ no_letter_before case value letter from place to none within k low high =
 pub no_letter_left : (case : CaseSensitivity) (value : List ℕ) (letter from : ℕ) → IsFirstByte (is_letter_of case letter) (drop from value) None → from ≤ length value → NoLetter case value letter from (length value)
 no_letter_left case value letter from none within = no_letter_before case value letter from (length (drop from value)) (length value) none (omega (arith, length-drop from value))
 
-pub letter_left : (case : CaseSensitivity) (value : List ℕ) (letter from place : ℕ) → IsFirstByte (is_letter_of case letter) (drop from value) (Some place) → from ≤ length value → IsLetterEnd case value letter from (from + place + 1)
-letter_left case value letter from place found within =
+pub letter_left : (case : CaseSensitivity) (value : List ℕ) (letter from offset : ℕ) → IsFirstByte (is_letter_of case letter) (drop from value) (Some offset) → from ≤ length value → IsLetterEnd case value letter from (from + offset + 1)
+letter_left case value letter from offset found within =
     let high = found.0.high in
-    let low : place < length value - from = omega (arith, length-drop from value) in
+    let low : offset < length value - from = omega (arith, length-drop from value) in
     record {
       after = omega arith;
       within = omega arith;
-      before = no_letter_before case value letter from place (from + place + 1 - 1) found.0.before (omega arith);
+      before = no_letter_before case value letter from offset (from + offset + 1 - 1) found.0.before (omega arith);
     }

@@ -6,7 +6,7 @@ use Rattle.lol_instructions.specs.Compiled.{all_values, some_values}
 use Rattle.lol_instructions.specs.declared.name_value.NameValue.{NameValue}
 use Rattle.lol_instructions.specs.declared.name_value.NameValue.TheVariants.{True, False, Open}
 
--- 1. What is left from a place on
+-- 1. What is left from one on
 
 pub drop_here : {A : Type 0} (xs : List A) (i : ℕ) (x : A) → i < length xs → x ≡ get_or xs i x → drop i xs ≡ x ∷ drop (i + 1) xs
 drop_here [] i x within at = absurd (omega (arith, within))
@@ -54,7 +54,7 @@ either_open Open False h = refl
 either_open Open Open h = refl
 
 module _ {A : Type 0} (value : A → NameValue) where
-  -- where the tests from a place on fail, all do
+  -- where the tests from one on fail, all do
   all_false : (xs : List A) (i : ℕ) → all_values value (drop i xs) ≡ False → all_values value xs ≡ False
   all_false xs zero h = h
   all_false [] (suc i) h = h
@@ -82,7 +82,7 @@ module _ {A : Type 0} (value : A → NameValue) where
   none_if_last [] x here = ap (λ w. both w True) here
   none_if_last (y ∷ xs) x here = ap (both (value y)) (none_if_last xs x here) ∙ both_false (value y)
 
-  -- the compounds from a place on, in what is known so far
+  -- the compounds from one on, in what is known so far
   some_from : (xs : List A) (i : ℕ) (x : A) → i < length xs → x ≡ get_or xs i x → some_values value (drop i xs) ≡ either (value x) (some_values value (drop (i + 1) xs))
   some_from xs i x within at = ap (some_values value) (drop_here xs i x within at)
 

@@ -2,6 +2,6 @@ mod AttributeValues
 mod MarkLemmas
 mod MatcherLemmas
 pub mod PredicateMarkLemmas
-mod WordPlaces
+mod WordOffsets
 pub mod CompiledValues
 pub mod CompiledDecides

@@ -22,7 +22,7 @@ use Rattle.lol_instructions.specs.declared.compiled_predicate.CompiledPredicate.
 
 -- 1. What is seen
 
--- What compiled tests see of an element beside its attributes: its name in ASCII lower case, its place from 1 among its parent's children
+-- What compiled tests see of an element beside its attributes: its name in ASCII lower case, its position from 1 among its parent's children
 -- and, where children are counted by type, that among those of its name.
 pub record Sight : Type 0 where
   pub name : List ℕ
@@ -40,12 +40,12 @@ sight state name = record { name = name.lowercased; position = state.cumulative.
 
 -- 2. Simple tests
 
--- whether a place is there and is the An+Bth one
+-- whether a position is there and is the An+Bth one
 abbrev pub is_at : Progression → Option ℕ → Bool
 is_at nth None = false
 is_at nth (Some position) = has_index nth (pos position)
 
--- Whether a test of a name or a place passes; without a count by type none passes by type.
+-- Whether a test of a name or a position passes; without a count by type none passes by type.
 abbrev pub name_expr_holds : LocalNameExprTest → Sight → Bool
 name_expr_holds Any s = true
 name_expr_holds Never s = false

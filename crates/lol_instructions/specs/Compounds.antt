@@ -1,4 +1,4 @@
--- Compound selectors as trees of tests: whether an element passes them, and what its name and its place alone say of that.
+-- Compound selectors as trees of tests: whether an element passes them, and what its name and its position alone say of that.
 use Rattle.std.specs.Prelude.{◌≡◌, Bool, true, false, not, ◌&&◌, ◌||◌, List, [], ◌∷◌}
 use Rattle.lol_base.specs.StartTags.{Attribute}
 use Rattle.lol_instructions.specs.Tests.{Element, NameTest, IsNthOfType, AttributeTest, name_holds, attribute_holds}
@@ -65,7 +65,7 @@ abbrev mutual
   some_hold NoCompounds e = false
   some_hold (OrCompound compound compounds) e = all_hold compound e || some_hold compounds e
 
--- 3. The value by names: what is known before the attributes are. A test of a name or a place is true or false, one of attributes is open.
+-- 3. The value by names: what is known before the attributes are. A test of a name or a position is true or false, one of attributes is open.
 
 abbrev pub value_of_bool : Bool → NameValue
 value_of_bool true = True

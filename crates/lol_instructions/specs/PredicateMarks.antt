@@ -12,24 +12,24 @@ use Rattle.lol_instructions.specs.declared.name_value.NameValue.{NameValue}
 use Rattle.lol_instructions.specs.declared.name_value.NameValue.TheVariants.{False}
 use Rattle.lol_instructions.specs.declared.predicate_marks.Shape.{Shape}
 use Rattle.lol_instructions.specs.declared.predicate_marks.Shape.TheVariants.{Anywhere, At, Mixed}
-use Rattle.lol_instructions.specs.declared.predicate_marks.Place.{Place}
-use Rattle.lol_instructions.specs.declared.predicate_marks.Place.TheVariants.{NthChild, NthOfType}
+use Rattle.lol_instructions.specs.declared.predicate_marks.PositionTest.{PositionTest}
+use Rattle.lol_instructions.specs.declared.predicate_marks.PositionTest.TheVariants.{NthChild, NthOfType}
 use Rattle.lol_instructions.specs.declared.predicate_marks.PredicateMarks.{PredicateMarks}
 use Rattle.lol_instructions.specs.declared.compiled_predicate.CompiledTest.{CompiledTest}
 
--- a value where a place is the right one
+-- a value where a position is the right one
 abbrev pub value_if : Bool → NameValue → NameValue
 value_if there value = if there then value else False
 
--- whether an element stands where a place is
-abbrev pub is_there : Place → ℕ → Option ℕ → Bool
+-- whether an element stands where a test of positions asks
+abbrev pub is_there : PositionTest → ℕ → Option ℕ → Bool
 is_there (NthChild nth) position typed_position = has_index nth (pos position)
 is_there (NthOfType nth) position typed_position = is_at nth typed_position
 
--- what a shape says of an element that has the name and stands at these places, where it says something
+-- what a shape says of an element that has the name and stands at these positions, where it says something
 abbrev pub shape_value : Shape → ℕ → Option ℕ → Option NameValue
 shape_value (Anywhere value) position typed_position = Some value
-shape_value (At place value) position typed_position = Some (value_if (is_there place position typed_position) value)
+shape_value (At test value) position typed_position = Some (value_if (is_there test position typed_position) value)
 shape_value Mixed position typed_position = None
 
 -- the value of two parts that say something together

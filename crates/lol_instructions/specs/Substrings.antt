@@ -7,7 +7,7 @@ use Rattle.lol_instructions.specs.Tests.{stands_in}
 abbrev pub stands_in_caseless : List ℕ → List ℕ → Bool
 stands_in_caseless value operand = stands_in (lowercased value) (lowercased operand)
 
--- What is left of a value after the first place of an operand's first letter: there the rest of the operand follows, or the operand stands in
+-- What is left of a value after the first offset of an operand's first letter: there the rest of the operand follows, or the operand stands in
 -- what is left, or it doesn't stand in the value.
 abbrev pub IsAfterLetter : ℕ → List ℕ → Option (List ℕ) → Type 0
 IsAfterLetter first value after =

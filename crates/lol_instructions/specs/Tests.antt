@@ -14,7 +14,7 @@ use Rattle.lol_base.specs.declared.comparison.AttrSelectorOperator.TheVariants.{
 use Rattle.lol_base.specs.declared.comparison.ParsedCaseSensitivity.{ParsedCaseSensitivity}
 use Rattle.lol_base.specs.declared.comparison.ParsedCaseSensitivity.TheVariants.{ExplicitCaseSensitive, AsciiCaseInsensitive, CaseSensitive, AsciiCaseInsensitiveIfInHtmlElementInHtmlDocument}
 
--- An element of the document: the number of its start tag's event, that tag, and its place from 1 among its parent's children:
+-- An element of the document: the number of its start tag's event, that tag, and its position from 1 among its parent's children:
 -- among all of them, and among those of its name.
 pub record Element : Type 0 where
   pub number : ℕ

@@ -58,7 +58,7 @@ impl<'i> Model for AttributeMatcher<'i> {
 }
 
 impl<'i> AttributeMatcher<'i> {
-    /// The attributes that stand at these places of the input, of an element in this namespace. Each name range and each value range lies
+    /// The attributes that stand in these ranges of the input, of an element in this namespace. Each name range and each value range lies
     /// inside the input. They are walked over once.
     pub fn new(input: Bytes<'i>, attributes: &'i AttributeBuffer, ns: Namespace) -> Self
         requires { All (OutlineIsInside (bytes_of input)) attributes.now.items }
@@ -99,20 +99,20 @@ impl<'i> AttributeMatcher<'i> {
         self.class
     }
 
-    /// The name of the attribute at a place, from 0, as it is written; none where there are not so many.
-    pub fn name_at(&self, place: usize) -> Option<&'i [u8]>
-        ensures { option_copied result ≡ option_map (λ a. a.name) (slice_get self.now.attributes place) }
+    /// The name of the attribute at an index, from 0, as it is written; none where there are not so many.
+    pub fn name_at(&self, index: usize) -> Option<&'i [u8]>
+        ensures { option_copied result ≡ option_map (λ a. a.name) (slice_get self.now.attributes index) }
     {
-        let outline = self.attributes.get(place)?;
+        let outline = self.attributes.get(index)?;
         Some(&self.input[outline.name.start..outline.name.end])
     }
 
-    /// The value of the attribute at a place, from 0, which is empty where none is written; none where there are not so many attributes.
-    pub fn value_at(&self, place: usize) -> Option<&'i [u8]>
+    /// The value of the attribute at an index, from 0, which is empty where none is written; none where there are not so many attributes.
+    pub fn value_at(&self, index: usize) -> Option<&'i [u8]>
         ensures { option_copied result
-            ≡ option_map (λ a. unwrap_or a.value []) (slice_get self.now.attributes place) }
+            ≡ option_map (λ a. unwrap_or a.value []) (slice_get self.now.attributes index) }
     {
-        Some(value_at(self.input, self.attributes.get(place)?))
+        Some(value_at(self.input, self.attributes.get(index)?))
     }
 
     /// Whether the attribute is there.

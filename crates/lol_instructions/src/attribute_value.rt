@@ -14,7 +14,7 @@ ghost use Rattle.lol_instructions.specs.Substrings.{stands_in_caseless, IsAfterL
 use lol_base::CaseSensitivity;
 use memchr::{memchr, memchr2, memmem};
 
-/// The longest value whose words, or places, are looked at one by one.
+/// The longest value whose words, or offsets, are looked at one by one.
 const MAX_SPLIT_LEN: usize = 32;
 
 /// Whether a byte is ASCII white space (HTML Standard, "ASCII whitespace").
@@ -78,7 +78,7 @@ fn has_word_split(value: &[u8], operand: &[u8], case: CaseSensitivity) -> bool
     is_equal(&value[start..], operand, case)
 }
 
-// Whether some word of a value is the operand: only the places of its last byte are looked at.
+// Whether some word of a value is the operand: only the offsets of its last byte are looked at.
 fn has_word_by_last(value: &[u8], operand: &[u8], case: CaseSensitivity) -> bool
     requires some { 0 < length operand.now }
     requires black { list_any is_white operand.now ≡ false }
@@ -95,7 +95,7 @@ fn has_word_by_last(value: &[u8], operand: &[u8], case: CaseSensitivity) -> bool
     false
 }
 
-// Whether the word that ends at a place is the operand.
+// Whether the word that ends at an offset is the operand.
 fn is_word_before(value: &[u8], operand: &[u8], end: usize, case: CaseSensitivity) -> bool
     requires { end ≤ length value.now }
     ensures { IsTrue result ↔ IsWordBefore case value.now operand.now end }
@@ -108,17 +108,17 @@ fn is_word_before(value: &[u8], operand: &[u8], end: usize, case: CaseSensitivit
         && is_equal(&value[start..end], operand, case)
 }
 
-// The end of a letter's first place from another place on.
+// The end of a letter's first offset from another offset on.
 fn letter_end(value: &[u8], from: usize, letter: u8, case: CaseSensitivity) -> Option<usize>
     requires { from ≤ length value.now }
     ensures { MatchOption result (NoLetter case value.now letter from (length value.now))
         (IsLetterEnd case value.now letter from) }
 {
-    let place = next_letter(&value[from..], letter, case)?;
-    Some(from + place + 1)
+    let offset = next_letter(&value[from..], letter, case)?;
+    Some(from + offset + 1)
 }
 
-// A letter's first place.
+// A letter's first offset.
 fn next_letter(value: &[u8], letter: u8, case: CaseSensitivity) -> Option<usize>
     ensures { IsFirstByte (is_letter_of case letter) value.now result }
 {
@@ -179,7 +179,7 @@ pub(crate) fn has_substring(value: &[u8], operand: &[u8], case: CaseSensitivity)
     }
 }
 
-// Whether a byte and the rest of an operand stand in a value: each place is looked at.
+// Whether a byte and the rest of an operand stand in a value: each offset is looked at.
 fn stands_in(value: &[u8], first: u8, rest: &[u8]) -> bool
     ensures { result ≡ stands_in value.now (first ∷ rest.now) }
 {
@@ -207,10 +207,10 @@ fn has_caseless_substring(value: &[u8], first: u8, rest: &[u8]) -> bool
     false
 }
 
-// What is left of a value after the first place of a letter, without ASCII case.
+// What is left of a value after the first offset of a letter, without ASCII case.
 fn after_letter(value: &[u8], letter: u8) -> Option<&[u8]>
     ensures { IsAfterLetter letter value.now (option_copied result) }
 {
-    let place = next_letter(value, letter, CaseSensitivity::AsciiCaseInsensitive)?;
-    Some(&value[place + 1..])
+    let offset = next_letter(value, letter, CaseSensitivity::AsciiCaseInsensitive)?;
+    Some(&value[offset + 1..])
 }

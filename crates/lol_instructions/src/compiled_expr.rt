@@ -1,4 +1,4 @@
-//! Compiled tests of names, places and attributes.
+//! Compiled tests of names, positions and attributes.
 
 ghost use Rattle.std.specs.Prelude.{◌≡◌};
 ghost use Rattle.lol_instructions.specs.Compiled.{sight, name_expr_holds, attribute_expr_holds};
@@ -7,7 +7,7 @@ use crate::attribute_matcher::{AttrExprOperands, AttributeMatcher};
 use crate::selector_state::SelectorState;
 use lol_base::{LocalName, NthChild};
 
-/// What a compiled test asks of a name or a place.
+/// What a compiled test asks of a name or a position.
 #[derive(Drop)]
 pub enum LocalNameExprTest {
     /// Every element passes.
@@ -16,9 +16,9 @@ pub enum LocalNameExprTest {
     Never,
     /// The element's name.
     LocalName(LocalName<'static>),
-    /// Its place among its parent's children.
+    /// Its position among its parent's children.
     NthChild(NthChild),
-    /// Its place among those of its name. Where children aren't counted by type no element passes.
+    /// Its position among those of its name. Where children aren't counted by type no element passes.
     NthOfType(NthChild),
 }
 
@@ -79,7 +79,7 @@ pub struct CompiledAttributeExpr {
 }
 
 impl CompiledAttributeExpr {
-    /// Whether an element passes that has these attributes, whatever its place is. It takes no memory.
+    /// Whether an element passes that has these attributes, whatever its position is. It takes no memory.
     pub fn eval(&self, _state: &SelectorState<'_>, matcher: &AttributeMatcher<'_>) -> bool
         ensures { result ≡ attribute_expr_holds self.now.test matcher.now }
     {

@@ -3,7 +3,7 @@
 use lol_memory::DenseHashSet;
 use std::ops::Range;
 
-/// Places of instructions, from `start` up to `end`.
+/// Addresses of instructions, from `start` up to `end`.
 pub type AddressRange = Range<usize>;
 
 /// What an instruction gives to an element that passes its tests (lol_html's `ExecutionBranch`): the ids that it is reported under, where

@@ -1,4 +1,4 @@
-//! The instructions of a program of selectors: what each tests of an element, by its name, its place among others and its attributes.
+//! The instructions of a program of selectors: what each tests of an element, by its name, its position among others and its attributes.
 #![tactic(auto)]
 
 mod attribute_matcher;

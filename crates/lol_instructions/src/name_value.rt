@@ -4,7 +4,7 @@ ghost use Rattle.std.specs.Prelude.{◌≡◌};
 ghost use Rattle.lol_instructions.specs.Compounds.{value_of_bool, both, either, opposite};
 ghost use Rattle.lol_instructions.specs.PredicateMarks.{value_if};
 
-/// What an element's name and place alone say of whether it passes a test or a compound.
+/// What an element's name and position alone say of whether it passes a test or a compound.
 #[derive(Debug, Clone, Copy, PartialEq, Eq)]
 pub enum NameValue {
     /// It passes, whatever its attributes are.
@@ -16,7 +16,7 @@ pub enum NameValue {
 }
 
 impl NameValue {
-    /// The value of a test that names and places alone decide.
+    /// The value of a test that names and positions alone decide.
     #[inline(always)]
     pub(crate) fn of_test(passes: bool) -> Self
         ensures { result ≡ value_of_bool passes }

@@ -17,21 +17,21 @@ use lol_base::{LocalName, NthChild};
 
 /// Where an element has to stand.
 #[derive(Clone, Copy)]
-pub(crate) enum Place {
+pub(crate) enum PositionTest {
     /// Among its parent's children.
     NthChild(NthChild),
     /// Among those of its name. Where children aren't counted by type no element stands there.
     NthOfType(NthChild),
 }
 
-impl Place {
+impl PositionTest {
     #[inline(always)]
     fn has(&self, state: &SelectorState<'_>) -> bool
         ensures { result ≡ is_there self.now state.now.cumulative.now (option_copied state.now.typed) }
     {
         match self {
-            Place::NthChild(nth) => state.cumulative.is_nth(*nth),
-            Place::NthOfType(nth) => match state.typed {
+            PositionTest::NthChild(nth) => state.cumulative.is_nth(*nth),
+            PositionTest::NthOfType(nth) => match state.typed {
                 Some(counter) => counter.is_nth(*nth),
                 None => false,
             },
@@ -39,13 +39,13 @@ impl Place {
     }
 }
 
-/// What places say of an element that has the name.
+/// What positions say of an element that has the name.
 #[derive(Clone, Copy)]
 pub(crate) enum Shape {
-    /// This at every place.
+    /// This at every position.
     Anywhere(NameValue),
-    /// This at such a place. At others it fails.
-    At(Place, NameValue),
+    /// This at such a position. At others it fails.
+    At(PositionTest, NameValue),
     /// What the tests say.
     Mixed,
 }
@@ -57,20 +57,20 @@ impl Shape {
     {
         match self {
             Shape::Anywhere(value) => Some(*value),
-            Shape::At(place, value) => Some(value.only_if(place.has(state))),
+            Shape::At(test, value) => Some(value.only_if(test.has(state))),
             Shape::Mixed => None,
         }
     }
 
-    /// What two shapes say together. Of two places none is kept.
+    /// What two shapes say together. Of two tests of positions none is kept.
     fn and(&self, other: &Shape) -> Self
         ensures { (position : ℕ) (typed : Option ℕ) (v : NameValue) → shape_value result position typed ≡ Some v
             → AreBoth (shape_value self.now position typed) (shape_value other.now position typed) v }
     {
         match (self, other) {
             (Shape::Anywhere(a), Shape::Anywhere(b)) => Shape::Anywhere(a.and(*b)),
-            (Shape::Anywhere(a), Shape::At(place, b)) | (Shape::At(place, b), Shape::Anywhere(a)) =>
-                Shape::At(*place, a.and(*b)),
+            (Shape::Anywhere(a), Shape::At(test, b)) | (Shape::At(test, b), Shape::Anywhere(a)) =>
+                Shape::At(*test, a.and(*b)),
             _ => Shape::Mixed,
         }
     }
@@ -191,10 +191,10 @@ impl PredicateMarks {
                 None => PredicateMarks::of_shape(Shape::Mixed),
             },
             LocalNameExprTest::NthChild(nth) => {
-                PredicateMarks::of_shape(Shape::At(Place::NthChild(*nth), NameValue::True))
+                PredicateMarks::of_shape(Shape::At(PositionTest::NthChild(*nth), NameValue::True))
             }
             LocalNameExprTest::NthOfType(nth) => {
-                PredicateMarks::of_shape(Shape::At(Place::NthOfType(*nth), NameValue::True))
+                PredicateMarks::of_shape(Shape::At(PositionTest::NthOfType(*nth), NameValue::True))
             }
         }
     }
@@ -234,7 +234,7 @@ impl PredicateMarks {
     }
 }
 
-/// What names and places say of whether elements pass some of these, if that is one value.
+/// What names and positions say of whether elements pass some of these, if that is one value.
 #[cycle(marking)]
 fn value_of_some(predicates: &[CompiledPredicate]) -> Option<NameValue>
     ensures { (v : NameValue) → result ≡ Some v → (s : Sight)

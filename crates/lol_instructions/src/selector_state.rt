@@ -1,4 +1,4 @@
-//! What the tests by place see of an element.
+//! What the tests by position see of an element.
 
 use crate::child_counter::ChildCounter;
 

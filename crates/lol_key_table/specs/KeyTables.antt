@@ -1,4 +1,4 @@
--- Tables of addresses by hashes. Addresses are the places of a list of hashes.
+-- Tables of addresses by hashes. Addresses are the indices of a list of hashes.
 use Rattle.std.specs.Prelude.{ℕ, ◌^◌, ◌≡◌, ◌≤◌, ◌<◌, ◌↔◌, List, Some, Contains, length, slice_get, slice_index_or}
 use Rattle.std.specs.List.Sorted.{IsNonDecreasingBy}
 use Rattle.lol_key_table.specs.declared.key_table.Entry.{Entry}

@@ -10,11 +10,11 @@ use std::alloc::{AllocError, Global};
 pub struct Entry {
     /// The hash of the key at the address.
     pub hash: u32,
-    /// The place of the hash in the list that the table was made of.
+    /// The index of the hash in the list that the table was made of.
     pub address: u32,
 }
 
-/// Which addresses have a hash: the addresses are the places of a list of hashes, from 0. It takes 8 bytes for each.
+/// Which addresses have a hash: the addresses are the indices of a list of hashes, from 0. It takes 8 bytes for each.
 #[derive(Debug, Drop)]
 pub struct KeyTable {
     entries: Vec<Entry>,

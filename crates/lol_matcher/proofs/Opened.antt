@@ -19,8 +19,8 @@ module _ {T : Type 0} where
   with_value-push value (x ∷ []) e = refl
   with_value-push value (x ∷ y ∷ front) e = ap (λ es. x ∷ es) (with_value-push value (y ∷ front) e)
 
-  last_place : (x y : Kept T) (xs : List (Kept T)) → length (x ∷ y ∷ xs) - 1 ≡ suc (length (y ∷ xs) - 1)
-  last_place x y xs = omega arith
+  last_index : (x y : Kept T) (xs : List (Kept T)) → length (x ∷ y ∷ xs) - 1 ≡ suc (length (y ∷ xs) - 1)
+  last_index x y xs = omega arith
 
   same_some : {x y : Kept T} → Some x ≡ Some y → x ≡ y
   same_some is = cc
@@ -31,14 +31,14 @@ module _ {T : Type 0} where
   pub last_value_is : (value : Option T) (xs : List (Kept T)) (e : Kept T) → slice_get xs (length xs - 1) ≡ Some e → last_value value xs ≡ e.value
   last_value_is value [] e is = cc
   last_value_is value (x ∷ []) e is = ap (λ (k : Kept T). k.value) (same_some is)
-  last_value_is value (x ∷ y ∷ xs) e is = last_value_is value (y ∷ xs) e (subst (λ n. slice_get (x ∷ y ∷ xs) n ≡ Some e) (last_place x y xs) is)
+  last_value_is value (x ∷ y ∷ xs) e is = last_value_is value (y ∷ xs) e (subst (λ n. slice_get (x ∷ y ∷ xs) n ≡ Some e) (last_index x y xs) is)
 
   pub with_value_is : (value : Option T) (xs : List (Kept T)) (e : Kept T) → slice_get xs (length xs - 1) ≡ Some e → slice_set xs (length xs - 1) (record e { value = value }) ≡ with_value value xs
   with_value_is value [] e is = cc
   with_value_is value (x ∷ []) e is = ap (λ (k : Kept T). record k { value = value } ∷ []) (sym (same_some is))
   with_value_is value (x ∷ y ∷ xs) e is =
-      ap (λ n. slice_set (x ∷ y ∷ xs) n (record e { value = value })) (last_place x y xs)
-      ∙ ap (λ es. x ∷ es) (with_value_is value (y ∷ xs) e (subst (λ n. slice_get (x ∷ y ∷ xs) n ≡ Some e) (last_place x y xs) is))
+      ap (λ n. slice_set (x ∷ y ∷ xs) n (record e { value = value })) (last_index x y xs)
+      ∙ ap (λ es. x ∷ es) (with_value_is value (y ∷ xs) e (subst (λ n. slice_get (x ∷ y ∷ xs) n ≡ Some e) (last_index x y xs) is))
 
   pub no_last : (xs : List (Kept T)) → slice_get xs (length xs - 1) ≡ None → xs ≡ []
   no_last [] is = refl
@@ -47,7 +47,7 @@ module _ {T : Type 0} where
     where
       none_more : (x y : Kept T) (xs : List (Kept T)) → slice_get (x ∷ y ∷ xs) (length (x ∷ y ∷ xs) - 1) ≡ None → ⊥
       none_more x y [] is = none_is is
-      none_more x y (z ∷ xs) is = none_more y z xs (subst (λ n. slice_get (x ∷ y ∷ z ∷ xs) n ≡ None) (last_place x y (z ∷ xs)) is)
+      none_more x y (z ∷ xs) is = none_more y z xs (subst (λ n. slice_get (x ∷ y ∷ z ∷ xs) n ≡ None) (last_index x y (z ∷ xs)) is)
 
   -- 2. One more element
 

@@ -9,7 +9,7 @@ use Rattle.lol_program.specs.Paths.{Selectors}
 use Rattle.lol_stack.specs.Stacks.{list_in}
 use Rattle.lol_vm.specs.Answers.{after, document, is_dropped}
 use Rattle.lol_vm.specs.AnswerLaws.{document_push, longest_push}
-use Rattle.lol_vm.specs.Documents.{Document, empty, element_of, children_of, place_of, outer_part, after_start, after_end}
+use Rattle.lol_vm.specs.Documents.{Document, empty, element_of, children_of, index_of, outer_part, after_start, after_end}
 use Rattle.lol_vm.specs.Events.{Event, Start, End, has_content}
 use Rattle.lol_vm.specs.Refusals.{greatest_count, longest}
 use Rattle.lol_vm.specs.Standing.{DocumentsAreOrdered}
@@ -104,16 +104,16 @@ module _ {E : Type 0} (depths : SlotsAreOfDepth E) (ordered : DocumentsAreOrdere
 
   -- 3. End tags
 
-  outer_is_shorter : (place : Option ℕ) (d : Document) → length (outer_part place d.open_elements) ≤ length d.open_elements
+  outer_is_shorter : (index : Option ℕ) (d : Document) → length (outer_part index d.open_elements) ≤ length d.open_elements
   outer_is_shorter None d = omega arith
-  outer_is_shorter (Some place) d = let shorter = length-drop (place + 1) d.open_elements in omega (arith, shorter)
+  outer_is_shorter (Some index) d = let shorter = length-drop (index + 1) d.open_elements in omega (arith, shorter)
 
   pub runs_after_end : (events : List Event) (name : List ℕ) (old new : Vm E) (now : Limiter) → Runs s esi events old now → Stands s esi new (events ++ End name ∷ []) → slot_bytes new ≡ slot_bytes old → IsCharged new now
       → Runs s esi (events ++ End name ∷ []) new now
   runs_after_end events name old new now runs stands bytes charged =
       let d = document s esi events in
       let enough = (ordered s esi events).enough in
-      let shorter = outer_is_shorter (place_of name d.open_elements) d in
+      let shorter = outer_is_shorter (index_of name d.open_elements) d in
       let same : longest s esi events ≡ max (longest s esi events) (length (after_end d name).open_elements) = omega (arith, enough, shorter) in
       let usage : now.usage ≡ slots (slot_bytes old) (longest s esi events) * slot_bytes old = runs.charged ∙ ap (λ n. n * slot_bytes old) (depths s esi old events runs.stands) in
       runs_on events (End name) old new now now runs.some runs.word stands bytes refl charged

@@ -59,18 +59,18 @@ count_held ws some =
     ap (λ xs. length (filter (λ w. not (nat_eq w 0)) xs)) (take_all (length ws - 1) (drop 1 ws) (omega (arith, length-drop 1 ws))) ∙ count_from ws (length ws - 1) 1 (omega arith)
 
 -- one word that is 0 in xs and not in ys
-held_from_one : (xs ys : List ℕ) (place j n : ℕ) → j ≤ place → place < j + n → get_or xs place 0 ≡ 0 → get_or ys place 0 ≢ 0
-    → ((k : ℕ) → k ≢ place → get_or ys k 0 ≡ get_or xs k 0) → held_from ys j n ≡ held_from xs j n + 1
-held_from_one xs ys place j zero low high none some others = absurd (omega arith)
-held_from_one xs ys place j (suc n) low high none some others =
-    elim (cases_eq j place) [
+held_from_one : (xs ys : List ℕ) (number j n : ℕ) → j ≤ number → number < j + n → get_or xs number 0 ≡ 0 → get_or ys number 0 ≢ 0
+    → ((k : ℕ) → k ≢ number → get_or ys k 0 ≡ get_or xs k 0) → held_from ys j n ≡ held_from xs j n + 1
+held_from_one xs ys number j zero low high none some others = absurd (omega arith)
+held_from_one xs ys number j (suc n) low high none some others =
+    elim (cases_eq j number) [
       | inl here ↦
           let rest : held_from ys (j + 1) n ≡ held_from xs (j + 1) n = held_from_alike ys xs (j + 1) n (λ k low high. others k (omega arith)) in
           let test : nat_eq (get_or xs j 0) 0 ≡ true = rw here (rw none refl) in
           let test' : nat_eq (get_or ys j 0) 0 ≡ false = rw here (grind (arith, nat_tests)) in
           rw (test, test', rest) refl
       | inr other ↦
-          let rest : held_from ys (j + 1) n ≡ held_from xs (j + 1) n + 1 = held_from_one xs ys place (j + 1) n (omega arith) (omega arith) none some others in
+          let rest : held_from ys (j + 1) n ≡ held_from xs (j + 1) n + 1 = held_from_one xs ys number (j + 1) n (omega arith) (omega arith) none some others in
           let same : get_or ys j 0 ≡ get_or xs j 0 = others j other in
           rw (same, rest) (elim (nat_eq (get_or xs j 0) 0) as (λ b. cond b (held_from xs (j + 1) n + 1) (held_from xs (j + 1) n + 1 + 1) ≡ cond b (held_from xs (j + 1) n) (held_from xs (j + 1) n + 1) + 1) [ true ↦ refl | false ↦ refl ])
     ]
@@ -106,11 +106,11 @@ pub held_words_more : (xs ys : List ℕ) → 0 < length xs → length xs ≤ len
 held_words_more xs ys some wider more =
     omega (arith, held_from_more xs ys 1 (length ys - 1) more, held_words_wider xs (length ys - 1) some (omega arith))
 
-module _ (old new : List ℕ) (place bits : ℕ) (some : 0 < length old) (marked : IsMarked old new place bits) where
+module _ (old new : List ℕ) (number bits : ℕ) (some : 0 < length old) (marked : IsMarked old new number bits) where
   stay : (k : ℕ) → get_or old k 0 ≢ 0 → get_or new k 0 ≢ 0
   stay k there none =
-      elim (cases_eq k place) [
-        | inl here ↦ there (omega (arith, ap (λ j. get_or old j 0) here, ap (λ j. get_or new j 0) here, marked.here, none, le_or_l (get_or old place 0) bits))
+      elim (cases_eq k number) [
+        | inl here ↦ there (omega (arith, ap (λ j. get_or old j 0) here, ap (λ j. get_or new j 0) here, marked.here, none, le_or_l (get_or old number 0) bits))
         | inr other ↦ there (sym (marked.others k other) ∙ none)
       ]
 
@@ -118,10 +118,10 @@ module _ (old new : List ℕ) (place bits : ℕ) (some : 0 < length old) (marked
   held_marked = held_words_more old new some (omega (arith, marked.words)) stay
 
   -- a word that was 0 counts one more, if it isn't the first
-  pub held_marked_new : bits ≢ 0 → 0 < place → get_or old place 0 ≡ 0 → held_words new ≡ held_words old + 1
+  pub held_marked_new : bits ≢ 0 → 0 < number → get_or old number 0 ≡ 0 → held_words new ≡ held_words old + 1
   held_marked_new held after none =
-      let there : get_or new place 0 ≢ 0 = λ empty. held (omega (arith, marked.here, le_or_r (get_or old place 0) bits)) in
-      held_from_one old new place 1 (length new - 1) (omega arith) (omega (arith, marked.words)) none there marked.others
+      let there : get_or new number 0 ≢ 0 = λ empty. held (omega (arith, marked.here, le_or_r (get_or old number 0) bits)) in
+      held_from_one old new number 1 (length new - 1) (omega arith) (omega (arith, marked.words)) none there marked.others
       ∙ ap (λ n. n + 1) (held_words_wider old (length new - 1) some (omega (arith, marked.words)))
 
 -- ---- the words that hold an id, by the ids

@@ -15,10 +15,10 @@ use Rattle.std.proofs.lemmas.Bool.{cases_lt, cases_eq}
 use Rattle.std.proofs.lemmas.Bool.Decides.{nat_tests}
 use Rattle.lol_memory.specs.Ids.{Ids, no_ids, with_ids}
 use Rattle.lol_memory.specs.Words.{holds, ids_held, ids_from, NoneHeld, IsFirstHeld}
-use Rattle.lol_memory.specs.SparseWords.{place_at, bits_at, Ascend, all_words, HasPlace}
+use Rattle.lol_memory.specs.SparseWords.{number_at, bits_at, Ascend, all_words, HasNumber}
 use Rattle.lol_memory.specs.declared.sparse_words.SparseWord.{SparseWord}
 use Rattle.lol_memory.specs.SetLaws.{same_set, has-no_ids, has-with_ids}
-use Rattle.lol_memory.proofs.SparseLemmas.{has_place_or_none, get_or-all_words, length-all_words, word_absent, word_there, place_near}
+use Rattle.lol_memory.proofs.SparseLemmas.{has_number_or_none, get_or-all_words, length-all_words, word_absent, word_there, number_near}
 
 -- ---- the ids rise
 abbrev paired : List ℕ → List (ℕ × Unit {0})
@@ -110,8 +110,8 @@ module _ (ws : List ℕ) (at : ℕ) where
   none_in_rest none q low high =
       let k : ℕ = q - at in
       let same_word : q / 32 ≡ at / 32 = omega arith in
-      let place : at % 32 + k ≡ q % 32 = omega arith in
-      let bit : bit_at word (q % 32) ≡ 0 = ap (bit_at word) (sym place) ∙ (sym (rest_bit k) ∙ (ap (λ w. bit_at w k) none ∙ bit_at-zero k)) in
+      let number : at % 32 + k ≡ q % 32 = omega arith in
+      let bit : bit_at word (q % 32) ≡ 0 = ap (bit_at word) (sym number) ∙ (sym (rest_bit k) ∙ (ap (λ w. bit_at w k) none ∙ bit_at-zero k)) in
       rw (same_word, bit) refl
 
   pub first_in_rest : rest ≢ 0 → word < 2 ^ 32 → at / 32 < length ws → IsFirstHeld ws at (at + trailing_zeros w32 rest)
@@ -126,66 +126,66 @@ module _ (ws : List ℕ) (at : ℕ) where
         | inr high ↦ absurd (let above : bit_at word (at % 32 + k) ≡ 0 = bit_at_above word 32 (at % 32 + k) fits high in omega arith)
       ] in
       let same_word : (at + k) / 32 ≡ at / 32 = omega arith in
-      let place : (at + k) % 32 ≡ at % 32 + k = omega arith in
+      let number : (at + k) % 32 ≡ at % 32 + k = omega arith in
       record {
         after = omega arith;
         within = omega arith;
-        held = rw (same_word, place, one) refl;
+        held = rw (same_word, number, one) refl;
         first = λ q from to.
             let j : ℕ = q - at in
             let q_word : q / 32 ≡ at / 32 = omega arith in
-            let q_place : q % 32 ≡ at % 32 + j = omega arith in
+            let q_number : q % 32 ≡ at % 32 + j = omega arith in
             let bit : bit_at word (at % 32 + j) ≡ 0 = sym (rest_bit j) ∙ zeros.2 j (omega arith) in
-            rw (q_word, q_place, bit) refl;
+            rw (q_word, q_number, bit) refl;
       }
 
 -- ---- runs of calls of `next`
 pub rest_runs : YieldsInOrder (YieldsFirst {A = ℕ} (λ rest. rest)) (λ rest. rest)
 rest_runs p s = as_is p p.from (from_front (YieldsFirst {A = ℕ} (λ rest. rest)) (λ x. x) (λ rest. rest) (λ s t h. ap length h.0) (λ s x t h. h) p s)
 
--- ---- the words with their places
+-- ---- the words with their numbers
 -- the words before the index k hold no id from `from` on
 abbrev pub PassesWords : List SparseWord → ℕ → ℕ → Type 0
-PassesWords ws from k = (i : ℕ) → i < k → NoneHeld (all_words ws) (max from (32 * place_at ws i)) (32 * place_at ws i + 32)
+PassesWords ws from k = (i : ℕ) → i < k → NoneHeld (all_words ws) (max from (32 * number_at ws i)) (32 * number_at ws i + 32)
 
 module _ (ws : List SparseWord) (ascend : Ascend ws) (from : ℕ) where
-  pub holds-of_place : (q : ℕ) → holds (all_words ws) q ≡ true → HasPlace ws (q / 32)
+  pub holds-of_number : (q : ℕ) → holds (all_words ws) q ≡ true → HasNumber ws (q / 32)
   unfolding holds
-  holds-of_place q held =
-      elim (has_place_or_none ws (q / 32)) [
+  holds-of_number q held =
+      elim (has_number_or_none ws (q / 32)) [
         | inl there ↦ there
         | inr none ↦ absurd (true≢false (sym held ∙ rw (get_or-all_words ws ascend (q / 32), word_absent ws (q / 32) none, bit_at-zero (q % 32)) refl))
       ]
 
-  pub passes_start : (start : ℕ) → start < length ws → 32 * place_at ws start ≤ from → PassesWords ws from start
+  pub passes_start : (start : ℕ) → start < length ws → 32 * number_at ws start ≤ from → PassesWords ws from start
   passes_start start within near i low q high below = absurd (omega (arith, ascend i start low within))
 
   -- no id is held from `from` up to the word at the index k
-  pub none_passed : (k q : ℕ) → PassesWords ws from k → from ≤ q → ((i : ℕ) → k ≤ i → i < length ws → q < 32 * place_at ws i) → holds (all_words ws) q ≡ false
+  pub none_passed : (k q : ℕ) → PassesWords ws from k → from ≤ q → ((i : ℕ) → k ≤ i → i < length ws → q < 32 * number_at ws i) → holds (all_words ws) q ≡ false
   none_passed k q passed low high = by_test (holds (all_words ws) q) refl
     where
       by_test : (b : Bool) → holds (all_words ws) q ≡ b → holds (all_words ws) q ≡ false
       by_test false none = none
       by_test true held =
-          let there = holds-of_place q held in
+          let there = holds-of_number q held in
           elim (cases_lt there.0 k) [
             | inl before ↦ passed there.0 before q (omega (arith, there.1.is)) (omega (arith, there.1.is))
             | inr after ↦ absurd (omega (arith, high there.0 after there.1.in_range, there.1.is))
           ]
 
-  pub passes_more : (k : ℕ) → PassesWords ws from k → NoneHeld (all_words ws) (max from (32 * place_at ws k)) (32 * place_at ws k + 32) → PassesWords ws from (k + 1)
+  pub passes_more : (k : ℕ) → PassesWords ws from k → NoneHeld (all_words ws) (max from (32 * number_at ws k)) (32 * number_at ws k + 32) → PassesWords ws from (k + 1)
   passes_more k passed none i low =
       elim (cases_eq i k) [ inl same ↦ rw same none | inr other ↦ passed i (omega arith) ]
 
-  module _ (k at : ℕ) (within : k < length ws) (begins : at ≡ max from (32 * place_at ws k)) where
-    here : at / 32 ≡ place_at ws k → get_or (all_words ws) (at / 32) 0 ≡ bits_at ws k
+  module _ (k at : ℕ) (within : k < length ws) (begins : at ≡ max from (32 * number_at ws k)) where
+    here : at / 32 ≡ number_at ws k → get_or (all_words ws) (at / 32) 0 ≡ bits_at ws k
     here is = get_or-all_words ws ascend (at / 32) ∙ word_there ws ascend (at / 32) k (record { in_range = within; is = sym is })
 
-    pub first_in_word : at / 32 ≡ place_at ws k → PassesWords ws from k → bits_at ws k < 2 ^ 32 → bits_at ws k / 2 ^ (at % 32) ≢ 0
+    pub first_in_word : at / 32 ≡ number_at ws k → PassesWords ws from k → bits_at ws k < 2 ^ 32 → bits_at ws k / 2 ^ (at % 32) ≢ 0
         → IsFirstHeld (all_words ws) from (at + trailing_zeros w32 (bits_at ws k / 2 ^ (at % 32)))
     first_in_word is passed fits some =
         let word = here is in
-        let near : at / 32 < length (all_words ws) = omega (arith, length-all_words ws, place_near ws k ascend within) in
+        let near : at / 32 < length (all_words ws) = omega (arith, length-all_words ws, number_near ws k ascend within) in
         let found : IsFirstHeld (all_words ws) at (at + trailing_zeros w32 (bits_at ws k / 2 ^ (at % 32))) =
         subst (λ b. IsFirstHeld (all_words ws) at (at + trailing_zeros w32 (b / 2 ^ (at % 32)))) word
         (first_in_rest (all_words ws) at (rw word some) (rw word fits) near)
@@ -195,17 +195,17 @@ module _ (ws : List SparseWord) (ascend : Ascend ws) (from : ℕ) where
           held = found.held;
           first = λ q low high. elim (cases_lt q at) [
             | inl early ↦ none_passed k q passed low (λ i later inside. elim (cases_eq i k) [
-              | inl same ↦ omega (arith, ap (place_at ws) same)
+              | inl same ↦ omega (arith, ap (number_at ws) same)
               | inr other ↦ omega (arith, ascend k i (omega arith) inside)
             ])
             | inr late ↦ found.first q late high
           ];
         }
 
-    pub none_in_rest_of_word : at / 32 ≡ place_at ws k → bits_at ws k / 2 ^ (at % 32) ≡ 0 → NoneHeld (all_words ws) (max from (32 * place_at ws k)) (32 * place_at ws k + 32)
+    pub none_in_rest_of_word : at / 32 ≡ number_at ws k → bits_at ws k / 2 ^ (at % 32) ≡ 0 → NoneHeld (all_words ws) (max from (32 * number_at ws k)) (32 * number_at ws k + 32)
     none_in_rest_of_word is none q low high =
         let word = here is in
         none_in_rest (all_words ws) at (rw word none) q (omega arith) (omega arith)
 
-    pub none_after_word : at / 32 ≢ place_at ws k → NoneHeld (all_words ws) (max from (32 * place_at ws k)) (32 * place_at ws k + 32)
+    pub none_after_word : at / 32 ≢ number_at ws k → NoneHeld (all_words ws) (max from (32 * number_at ws k)) (32 * number_at ws k + 32)
     none_after_word other q low high = absurd (omega (arith, other))

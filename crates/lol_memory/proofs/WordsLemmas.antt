@@ -86,26 +86,26 @@ module _ (old new : List ℕ) (id : ℕ) where
   pub marked : IsTrim old → id < 2 ^ 32 → IsMarked old new (id / 32) (1 * 2 ^ (id % 32) % 2 ^ 32) → IsTrim new × (ids_held new ≡ with_id (ids_held old) id)
   unfolding holds
   marked trim fits is =
-      let place = id / 32 in
-      let old_word = get_or old place 0 in
+      let number = id / 32 in
+      let old_word = get_or old number 0 in
       let word = bit_or old_word (1 * 2 ^ (id % 32) % 2 ^ 32) in
       let some : 0 < word = one_bit old_word (id % 32) (omega arith) in (
         record {
           some = omega (arith, trim.some, is.words);
           few = omega (arith, trim.few, is.words);
           fit = λ j.
-              elim (cases_eq j place) [
-                | inl here ↦ rw (here, is.here) (or_of_32 old_word (1 * 2 ^ (id % 32) % 2 ^ 32) (trim.fit place) (omega arith))
+              elim (cases_eq j number) [
+                | inl here ↦ rw (here, is.here) (or_of_32 old_word (1 * 2 ^ (id % 32) % 2 ^ 32) (trim.fit number) (omega arith))
                 | inr other ↦ rw (is.others j other) (trim.fit j)
               ];
           last = λ more.
-              elim (cases_eq (length new - 1) place) [
+              elim (cases_eq (length new - 1) number) [
                 | inl here ↦ λ none. omega (arith, is.here, rw here at none)
                 | inr other ↦ λ none. trim.last (omega (arith, trim.some, is.words)) (let there : length new - 1 ≡ length old - 1 = omega (arith, trim.some, is.words) in rw (← there) (sym (is.others (length new - 1) other) ∙ none))
               ];
         },
         ids_held-insert old new id
-            (λ q. elim (cases_eq (q / 32) place) [
+            (λ q. elim (cases_eq (q / 32) number) [
               | inl here ↦ elim (cases_eq (q % 32) (id % 32)) [
                 | inl bit ↦
                     let q_is : q ≡ id = omega arith in

@@ -7,7 +7,7 @@ use Rattle.lol_memory.specs.Slots.{slots}
 module _ (T : Type 0) where
   pub data Step : Type 0 where
     Pushed : T → Step  -- an element
-    Drained : ℕ → ℕ → Step  -- so many elements, from a place on
+    Drained : ℕ → ℕ → Step  -- so many elements, from an index on
 
 module _ {T : Type 0} where
   abbrev pub empty_list : ℕ → LimitedVec T

@@ -47,11 +47,11 @@ held_words ws = held_from ws 1 (length ws - 1)
 abbrev pub AreDense : ℕ → ℕ → Type 0
 AreDense words held = words ≤ 16 + 4 * held
 
--- new has the words of old, and at the place these bits too
-pub record IsMarked (old new : List ℕ) (place bits : ℕ) : Type 0 where
-  pub words : length new ≡ max (length old) (place + 1)
-  pub here : get_or new place 0 ≡ bit_or (get_or old place 0) bits
-  pub others : (j : ℕ) → j ≢ place → get_or new j 0 ≡ get_or old j 0
+-- new has the words of old, and at the number these bits too
+pub record IsMarked (old new : List ℕ) (number bits : ℕ) : Type 0 where
+  pub words : length new ≡ max (length old) (number + 1)
+  pub here : get_or new number 0 ≡ bit_or (get_or old number 0) bits
+  pub others : (j : ℕ) → j ≢ number → get_or new j 0 ≡ get_or old j 0
 
 -- new has the words of old and of other
 pub record IsJoined (old other new : List ℕ) : Type 0 where

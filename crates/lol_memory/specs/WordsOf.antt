@@ -1,7 +1,7 @@
 -- What a set's words are, and which of their forms they have.
 use Rattle.std.specs.Prelude.{ℕ, ◌<◌, List, [], ◌∷◌, length, ◌≡◌}
 use Rattle.lol_memory.specs.Words.{held_words, AreDense}
-use Rattle.lol_memory.specs.SparseWords.{all_words, IsSparse, HasPlace}
+use Rattle.lol_memory.specs.SparseWords.{all_words, IsSparse, HasNumber}
 use Rattle.lol_memory.specs.declared.words.Words.{Words}
 use Rattle.lol_memory.specs.declared.words.Words.TheVariants.{Inline, Heap, Sparse}
 
@@ -23,8 +23,8 @@ IsInForm (Inline word) = Unit {0}
 IsInForm (Heap words) = (1 < length words.items) × AreDense (length words.items) (held_words words.items)
 IsInForm (Sparse words) = IsSparse words.items × (AreDense (length (all_words words.items)) (held_words (all_words words.items)) → ⊥)
 
--- there is a word of the place, maybe of 0
+-- there is a word of the number, maybe of 0
 abbrev pub HasWord : Words → ℕ → Type 0
-HasWord (Inline word) place = place ≡ 0
-HasWord (Heap words) place = place < length words.items
-HasWord (Sparse words) place = HasPlace words.items place
+HasWord (Inline word) number = number ≡ 0
+HasWord (Heap words) number = number < length words.items
+HasWord (Sparse words) number = HasNumber words.items number

@@ -3,7 +3,7 @@
 ghost use Rattle.std.specs.Prelude.{◌≡◌, ◌≤◌, ◌<◌, ◌*◌, ◌^◌, length, ◌+◌, MatchOption, IfSome, IfNone};
 ghost use Rattle.std.specs.Iterator.{YieldsFirst, item_count};
 ghost use Rattle.lol_memory.specs.Words.{NoneHeld, IsFirstHeld};
-ghost use Rattle.lol_memory.specs.SparseWords.{IsSparse, all_words, place_at};
+ghost use Rattle.lol_memory.specs.SparseWords.{IsSparse, all_words, number_at};
 
 use crate::match_info::MatchId;
 use crate::sparse_words::SparseWord;
@@ -125,15 +125,15 @@ fn first_among(words: &[SparseWord], start: usize, from: usize) -> Option<(usize
     requires sparse { IsSparse words.now }
     requires few { length (all_words words.now) ≤ 2 ^ 27 }
     requires start { start < length words.now }
-    requires passed { 32 * place_at words.now start ≤ from }
+    requires passed { 32 * number_at words.now start ≤ from }
     ensures none { IfNone result (NoneHeld (all_words words.now) from (32 * length (all_words words.now))) }
     ensures first { IfSome result (λ r. IsFirstHeld (all_words words.now) from r.1) }
-    ensures index { IfSome result (λ r. (r.0 < length words.now) × (32 * place_at words.now r.0 ≤ r.1)) }
+    ensures index { IfSome result (λ r. (r.0 < length words.now) × (32 * number_at words.now r.0 ≤ r.1)) }
 {
     for index in start..words.len() {
         let word = words[index];
-        let at = from.max(32 * word.place as usize);
-        if at / 32 == word.place as usize {
+        let at = from.max(32 * word.number as usize);
+        if at / 32 == word.number as usize {
             let rest = word.bits >> (at % 32);
             if rest != 0 {
                 return Some((index, at + rest.trailing_zeros() as usize));

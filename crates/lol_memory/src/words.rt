@@ -9,7 +9,7 @@ use std::alloc::{AllocError, Global};
 use std::slice;
 
 /// Words of 32 bits, one for each 32 ids, the lowest bit first. One word takes no memory. Several stand in a list of all up to the last if
-/// these are at most 16, and 4 more for each word after the first that holds an id; or else those that hold ids stand with their places.
+/// these are at most 16, and 4 more for each word after the first that holds an id; or else those that hold ids stand with their numbers.
 #[derive(Debug, Drop)]
 pub(crate) enum Words {
     Inline(u32),
@@ -35,15 +35,15 @@ impl Words {
         }
     }
 
-    /// Whether there is a word at `place`.
-    pub(crate) fn has_word(&self, place: u32) -> bool
+    /// Whether there is a word at `number`.
+    pub(crate) fn has_word(&self, number: u32) -> bool
         requires { IsInForm self.now }
-        ensures { IsTrue result ↔ HasWord self.now place }
+        ensures { IsTrue result ↔ HasWord self.now number }
     {
         match self {
-            Words::Inline(_) => place == 0,
-            Words::Heap(words) => words.len() > place as usize,
-            Words::Sparse(words) => find(words, place).is_ok(),
+            Words::Inline(_) => number == 0,
+            Words::Heap(words) => words.len() > number as usize,
+            Words::Sparse(words) => find(words, number).is_ok(),
         }
     }
 
@@ -84,46 +84,46 @@ impl Words {
         }
     }
 
-    /// Sets bits of the word at `place`. It takes memory only where there is no such word.
-    pub(crate) fn add(&mut self, alloc: Global, place: u32, bits: u32) -> Result<(), AllocError>
+    /// Sets bits of the word at `number`. It takes memory only where there is no such word.
+    pub(crate) fn add(&mut self, alloc: Global, number: u32, bits: u32) -> Result<(), AllocError>
         requires form { IsInForm self.old }
         requires few { length (words_of self.old) ≤ 2 ^ 27 }
-        requires place { place < 2 ^ 27 }
+        requires number { number < 2 ^ 27 }
         requires bits { bits ≢ 0 }
         ensures form { IsInForm self.new }
-        ensures ok { OnOk result (IsMarked (words_of self.old) (words_of self.new) place bits) }
-        ensures free { HasWord self.old place → IsOk result }
+        ensures ok { OnOk result (IsMarked (words_of self.old) (words_of self.new) number bits) }
+        ensures free { HasWord self.old number → IsOk result }
         ensures err { OnErr result (words_of self.new ≡ words_of self.old) }
     {
-        if self.has_word(place) {
-            self.mark(place, bits);
+        if self.has_word(number) {
+            self.mark(number, bits);
             return Ok(());
         }
-        let len = self.word_count().max(place as usize + 1);
+        let len = self.word_count().max(number as usize + 1);
         if self.stays_dense(len) {
             self.widen(alloc, len)?;
-            self.mark(place, bits);
+            self.mark(number, bits);
             Ok(())
         } else {
-            self.scatter(alloc, SparseWord { place, bits })
+            self.scatter(alloc, SparseWord { number, bits })
         }
     }
 
     /// Sets bits of a word that is there.
-    pub(crate) fn mark(&mut self, place: u32, bits: u32)
-        requires place { HasWord self.old place }
+    pub(crate) fn mark(&mut self, number: u32, bits: u32)
+        requires number { HasWord self.old number }
         requires bits { bits ≢ 0 }
         requires form { IsList self.old ⊎ IsInForm self.old }
         ensures form { IsInForm self.old → IsInForm self.new }
         ensures list { IsList self.old → IsList self.new }
-        ensures places { (j : ℕ) → HasWord self.old j → HasWord self.new j }
-        ensures bits { IsMarked (words_of self.old) (words_of self.new) place bits }
+        ensures numbers { (j : ℕ) → HasWord self.old j → HasWord self.new j }
+        ensures bits { IsMarked (words_of self.old) (words_of self.new) number bits }
     {
         match self {
             Words::Inline(word) => *word |= bits,
-            Words::Heap(words) => words[place as usize] |= bits,
+            Words::Heap(words) => words[number as usize] |= bits,
             Words::Sparse(words) => {
-                if let Ok(index) = find(words, place) {
+                if let Ok(index) = find(words, number) {
                     words[index].bits |= bits;
                 }
             }
@@ -157,15 +157,15 @@ impl Words {
         }
     }
 
-    /// Adds a word that isn't there, and keeps the words with their places.
+    /// Adds a word that isn't there, and keeps the words with their numbers.
     fn scatter(&mut self, alloc: Global, word: SparseWord) -> Result<(), AllocError>
         requires form { IsInForm self.old }
-        requires absent { HasWord self.old word.place → ⊥ }
+        requires absent { HasWord self.old word.number → ⊥ }
         requires held { word.bits ≢ 0 }
-        requires wide { AreDense (max (length (words_of self.old)) (word.place + 1))
+        requires wide { AreDense (max (length (words_of self.old)) (word.number + 1))
             (held_words (words_of self.old) + 1) → ⊥ }
         ensures form { IsInForm self.new }
-        ensures ok { OnOk result (IsMarked (words_of self.old) (words_of self.new) word.place word.bits) }
+        ensures ok { OnOk result (IsMarked (words_of self.old) (words_of self.new) word.number word.bits) }
         ensures err { OnErr result (words_of self.new ≡ words_of self.old) }
     {
         match self {
@@ -174,7 +174,7 @@ impl Words {
             }
             Words::Heap(words) => *self = Words::Sparse(scatter(words, word, alloc)?),
             Words::Sparse(words) => {
-                if let Err(index) = find(words, word.place) {
+                if let Err(index) = find(words, word.number) {
                     words.insert(index, word)?;
                 }
             }
@@ -217,7 +217,7 @@ impl Words {
         Words::in_form(alloc, both)
     }
 
-    /// The words of both, those that hold ids and the first, with their places.
+    /// The words of both, those that hold ids and the first, with their numbers.
     fn merge_words(&self, alloc: Global, other: &Words) -> Result<Vec<SparseWord>, AllocError>
         requires form { IsInForm self.now }
         requires few { length (words_of self.now) ≤ 2 ^ 27 }
@@ -234,7 +234,7 @@ impl Words {
         }
     }
 
-    /// These words and `more`, those that hold ids and the first, with their places.
+    /// These words and `more`, those that hold ids and the first, with their numbers.
     fn merge_placed(
         &self,
         alloc: Global,

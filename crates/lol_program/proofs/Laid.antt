@@ -13,18 +13,18 @@ use Rattle.lol_program.specs.NodeMemberLaws.{HasPair}
 use Rattle.lol_program.specs.NodeListLaws.{pairs_listed}
 use Rattle.lol_base.specs.MemberLaws.{Among, Distinct, among_front, among_back, among_either}
 use Rattle.lol_program.specs.NodeOnceLaws.{nodes_distinct, AllPairs-from_Distinct}
-use Rattle.lol_program.specs.Programs.{Instruction, IsWithin, IsAt, HoldsPlaces, IsRangeOf, IsInstruction, IsProgramOf, above}
+use Rattle.lol_program.specs.Programs.{Instruction, IsWithin, IsAt, HoldsAddresses, IsRangeOf, IsInstruction, IsProgramOf, above}
 use Rattle.lol_program.specs.Layouts.{width, range_of, instruction_of, Entry, laid_tops, laid_below, laid, selectors_in, program_of, LayoutsArePrograms, WorkedLayout}
 use Rattle.lol_base.specs.PlaceLaws.{some_is, at_among, same_at, one_place, at_within}
 use Rattle.lol_program.specs.StepLaws.{one_front, one_step}
-use Rattle.lol_program.proofs.ListPlaces.{at_map, map_at}
+use Rattle.lol_program.proofs.ListIndices.{at_map, map_at}
 use Rattle.lol_program.proofs.ByType.{any_by_type-nodes}
 
--- 1. Places in order
+-- 1. Addresses in order
 
 abbrev pub Numbered : ℕ → List Entry → Type 0
 Numbered n [] = Unit {0}
-Numbered n (t ∷ ts) = (t.place ≡ n) × Numbered (suc n) ts
+Numbered n (t ∷ ts) = (t.address ≡ n) × Numbered (suc n) ts
 
 numbered_from : (m n : ℕ) (ts : List Entry) → m ≡ n → Numbered m ts → Numbered n ts
 numbered_from m n ts is h = subst (λ k. Numbered k ts) is h
@@ -33,14 +33,14 @@ numbered_append : (n : ℕ) (xs ys : List Entry) → Numbered n xs → Numbered 
 numbered_append n [] ys hx hy = numbered_from (n + 0) n ys (omega arith) hy
 numbered_append n (x ∷ xs) ys hx hy = (hx.0, numbered_append (suc n) xs ys hx.1 (numbered_from (n + suc (length xs)) (suc n + length xs) ys (omega arith) hy))
 
-numbered_among : (n : ℕ) (ts : List Entry) (t : Entry) → Numbered n ts → Among ts t → (k : ℕ) × (t.place ≡ n + k) × IsAt ts k t
+numbered_among : (n : ℕ) (ts : List Entry) (t : Entry) → Numbered n ts → Among ts t → (k : ℕ) × (t.address ≡ n + k) × IsAt ts k t
 numbered_among n [] t h a = absurd a
-numbered_among n (x ∷ ts) t h (inl is) = (0, ap (λ (t : Entry). t.place) (sym is) ∙ (h.0 ∙ omega arith), ap Some is)
+numbered_among n (x ∷ ts) t h (inl is) = (0, ap (λ (t : Entry). t.address) (sym is) ∙ (h.0 ∙ omega arith), ap Some is)
 numbered_among n (x ∷ ts) t h (inr a) = let rest = numbered_among (suc n) ts t h.1 a in (suc rest.0, rest.1 ∙ omega arith, rest.2)
 
-pub numbered_at : (n : ℕ) (ts : List Entry) (k : ℕ) (t : Entry) → Numbered n ts → IsAt ts k t → t.place ≡ n + k
+pub numbered_at : (n : ℕ) (ts : List Entry) (k : ℕ) (t : Entry) → Numbered n ts → IsAt ts k t → t.address ≡ n + k
 numbered_at n [] k t h at = cc
-numbered_at n (x ∷ ts) zero t h at = let is : x ≡ t = cc in ap (λ (t : Entry). t.place) (sym is) ∙ (h.0 ∙ omega arith)
+numbered_at n (x ∷ ts) zero t h at = let is : x ≡ t = cc in ap (λ (t : Entry). t.address) (sym is) ∙ (h.0 ∙ omega arith)
 numbered_at n (x ∷ ts) (suc k) t h at = numbered_at (suc n) ts k t h.1 at ∙ omega arith
 
 length_tops : (make : Compound → Path) (f : Forest) (at free : ℕ) → length (laid_tops make f at free) ≡ width f
@@ -122,17 +122,17 @@ below_paths make (more c ids children descendants rest) free =
 
 -- 3. Siblings
 
-top_is : (make : Compound → Path) (f : Forest) (at free : ℕ) (t : Entry) → Among (laid_tops make f at free) t → (c : Compound) × (t.path ≡ make c) × IsWithin t.place (record { start = at; end = at + width f }) × (range_of f at ≡ Some (record { start = at; end = at + width f }))
+top_is : (make : Compound → Path) (f : Forest) (at free : ℕ) (t : Entry) → Among (laid_tops make f at free) t → (c : Compound) × (t.path ≡ make c) × IsWithin t.address (record { start = at; end = at + width f }) × (range_of f at ≡ Some (record { start = at; end = at + width f }))
 top_is make none at free t h = absurd h
 top_is make (more c ids children descendants rest) at free t (inl is) =
-    let place : at ≡ t.place = ap (λ (t : Entry). t.place) is in
-    (c, sym (ap (λ (t : Entry). t.path) is), (omega (arith, place), omega (arith, place)), refl)
+    let address : at ≡ t.address = ap (λ (t : Entry). t.address) is in
+    (c, sym (ap (λ (t : Entry). t.path) is), (omega (arith, address), omega (arith, address)), refl)
 top_is make (more c ids children descendants rest) at free t (inr h) =
     let later = top_is make rest (suc at) (free + (size children + size descendants)) t h in
     let within = later.2 in
     (later.0, later.1, (omega (arith, within.0), omega (arith, within.1)), refl)
 
-top_at : (make : Compound → Path) (f : Forest) (at free k : ℕ) → at ≤ k → k < at + width f → (t : Entry) × Among (laid_tops make f at free) t × (t.place ≡ k)
+top_at : (make : Compound → Path) (f : Forest) (at free k : ℕ) → at ≤ k → k < at + width f → (t : Entry) × Among (laid_tops make f at free) t × (t.address ≡ k)
 top_at make none at free k low high = absurd (omega (arith, low, high))
 top_at make (more c ids children descendants rest) at free k low high =
     by_cases (split at k low) (λ above. top_at make rest (suc at) (free + (size children + size descendants)) k above (omega (arith, high)))
@@ -140,9 +140,9 @@ top_at make (more c ids children descendants rest) at free k low high =
     split : (a b : ℕ) → a ≤ b → (a ≡ b) ⊎ (suc a ≤ b)
     split a b h = grind arith
 
-    by_cases : (at ≡ k) ⊎ (suc at ≤ k) → (suc at ≤ k → (t : Entry) × Among (laid_tops make rest (suc at) (free + (size children + size descendants))) t × (t.place ≡ k))
-        → (t : Entry) × Among (laid_tops make (more c ids children descendants rest) at free) t × (t.place ≡ k)
-    by_cases (inl is) later = (record { place = at; path = make c; instruction = instruction_of c ids children descendants free }, inl refl, is)
+    by_cases : (at ≡ k) ⊎ (suc at ≤ k) → (suc at ≤ k → (t : Entry) × Among (laid_tops make rest (suc at) (free + (size children + size descendants))) t × (t.address ≡ k))
+        → (t : Entry) × Among (laid_tops make (more c ids children descendants rest) at free) t × (t.address ≡ k)
+    by_cases (inl is) later = (record { address = at; path = make c; instruction = instruction_of c ids children descendants free }, inl refl, is)
     by_cases (inr high') later = let x = later high' in (x.0, inr x.1, x.2)
 
 -- 4. What is said of a node among all entries
@@ -234,7 +234,7 @@ record HasParent (all : List Entry) (t : Entry) : Type 0 where
   step : Combinator
   range : Range ℕ
   gives : which step parent.instruction ≡ Some range
-  within : IsWithin t.place range
+  within : IsWithin t.address range
   under : above t.path ≡ Some (parent.path, step)
 
 module _ (all : List Entry) where
@@ -243,7 +243,7 @@ module _ (all : List Entry) where
   parent_of_below make (more c ids children descendants rest) at free ht hb t a =
       let mc = Then (make c) Child in
       let md = Then (make c) Descendant in
-      let u : Entry = record { place = at; path = make c; instruction = instruction_of c ids children descendants free } in
+      let u : Entry = record { address = at; path = make c; instruction = instruction_of c ids children descendants free } in
       let hc = in_children all make c ids children descendants rest free hb in
       let hd = in_descendants all make c ids children descendants rest free hb in
       elim (parts all make c ids children descendants rest free t a) [
@@ -264,7 +264,7 @@ module _ (all : List Entry) where
       → (t : Entry) × Among all t × (t.path ≡ path) × Contains t.instruction.ids id
   entry_of_pair make none at free ht hb path id h = absurd h
   entry_of_pair make (more c ids children descendants rest) at free ht hb path id (inl (inl h)) =
-      let u : Entry = record { place = at; path = make c; instruction = instruction_of c ids children descendants free } in
+      let u : Entry = record { address = at; path = make c; instruction = instruction_of c ids children descendants free } in
       (u, ht u (inl refl), h.0, h.1)
   entry_of_pair make (more c ids children descendants rest) at free ht hb path id (inl (inr (inl h))) =
       let mc = Then (make c) Child in
@@ -327,25 +327,25 @@ module _ (f : Forest) (differ : SiblingsDiffer f) where
   once : Distinct paths
   once = subst Distinct (sym paths_are) (nodes_distinct f differ)
 
-  place_of_entry : (t : Entry) → Among entries t → IsAt entries t.place t
-  place_of_entry t a =
+  address_of_entry : (t : Entry) → Among entries t → IsAt entries t.address t
+  address_of_entry t a =
       let at = numbered_among 0 entries t entries_numbered a in
-      let place : at.0 ≡ t.place = omega (arith, at.1) in
-      subst (λ k. IsAt entries k t) place at.2
+      let address : at.0 ≡ t.address = omega (arith, at.1) in
+      subst (λ k. IsAt entries k t) address at.2
 
-  path_of_entry : (t : Entry) → Among entries t → IsAt paths t.place t.path
-  path_of_entry t a = map_at (λ (t : Entry). t.path) entries t.place t (place_of_entry t a)
+  path_of_entry : (t : Entry) → Among entries t → IsAt paths t.address t.path
+  path_of_entry t a = map_at (λ (t : Entry). t.path) entries t.address t (address_of_entry t a)
 
-  entry_at : (k : ℕ) (path : Path) → IsAt paths k path → (t : Entry) × Among entries t × (t.place ≡ k) × (t.path ≡ path)
+  entry_at : (k : ℕ) (path : Path) → IsAt paths k path → (t : Entry) × Among entries t × (t.address ≡ k) × (t.path ≡ path)
   entry_at k path at =
       let x = at_map (λ (t : Entry). t.path) entries k path at in
-      let place = numbered_at 0 entries k x.0 entries_numbered x.1 in
-      (x.0, at_among entries k x.0 x.1, omega (arith, place), x.2)
+      let address = numbered_at 0 entries k x.0 entries_numbered x.1 in
+      (x.0, at_among entries k x.0 x.1, omega (arith, address), x.2)
 
   same_entry : (t u : Entry) → Among entries t → Among entries u → t.path ≡ u.path → t ≡ u
   same_entry t u a b same =
-      let place : t.place ≡ u.place = one_place paths once t.place u.place u.path (path_of_entry t a ∙ ap Some same) (path_of_entry u b) in
-      same_at entries u.place t u (subst (λ k. IsAt entries k t) place (place_of_entry t a)) (place_of_entry u b)
+      let address : t.address ≡ u.address = one_place paths once t.address u.address u.path (path_of_entry t a ∙ ap Some same) (path_of_entry u b) in
+      same_at entries u.address t u (subst (λ k. IsAt entries k t) address (address_of_entry t a)) (address_of_entry u b)
 
   tops_within : Within entry_tops entries
   tops_within t a = among_front entry_tops entry_below t a
@@ -387,9 +387,9 @@ module _ (f : Forest) (differ : SiblingsDiffer f) where
       ordered = omega arith;
       inside =
           let last = top_at (Then t.path step) (more c ids children descendants rest) a x (a + width rest) (omega arith) (omega arith) in
-          let within = at_within paths last.0.place last.0.path (path_of_entry last.0 (h last.0 last.1)) in
-          let place = last.2 in
-          omega (arith, within, place);
+          let within = at_within paths last.0.address last.0.path (path_of_entry last.0 (h last.0 last.1)) in
+          let address = last.2 in
+          omega (arith, within, address);
       members = λ k. (
         λ within.
             let u = top_at (Then t.path step) (more c ids children descendants rest) a x k within.0 within.1 in
@@ -425,7 +425,7 @@ module _ (f : Forest) (differ : SiblingsDiffer f) where
             (range_right t a Descendant node.descendants (node.free + size node.children) ((node.free + size node.children) + width node.descendants) is node.descendant_tops);
       }
 
-  entry_right : HoldsPlaces paths (record { start = 0; end = width f }) None
+  entry_right : HoldsAddresses paths (record { start = 0; end = width f }) None
   entry_right = record {
     ordered = omega arith;
     inside = omega (arith, length-map entries (λ (t : Entry). t.path), length_laid First f 0, length_below First f (0 + width f));
@@ -438,7 +438,7 @@ module _ (f : Forest) (differ : SiblingsDiffer f) where
       λ at.
           let u = entry_at k at.0 at.1 in
           elim (parent_entry u.0 u.1) [
-            | inl top ↦ let is = (top_is First f 0 (0 + width f) u.0 top).2 in let place = u.2 in (omega arith, omega (arith, is.1, place))
+            | inl top ↦ let is = (top_is First f 0 (0 + width f) u.0 top).2 in let address = u.2 in (omega arith, omega (arith, is.1, address))
             | inr h ↦ absurd (some_none (sym h.under ∙ (ap above u.3 ∙ at.2)))
           ],
     );
@@ -454,10 +454,10 @@ module _ (f : Forest) (differ : SiblingsDiffer f) where
     count = length-map entries (λ (t : Entry). t.instruction) ∙ sym (length-map entries (λ (t : Entry). t.path));
     entry = entry_right;
     by_type = sym (any_by_type-nodes First (λ c. refl) f) ∙ ap (list_any (λ path. has_test_by_type (last_compound path))) (sym paths_are);
-    each = λ place path i at at'.
-        let t = entry_at place path at in
-        let here = subst (λ k. IsAt instructions k t.0.instruction) t.2 (map_at (λ (t : Entry). t.instruction) entries t.0.place t.0 (place_of_entry t.0 t.1)) in
-        let same : t.0.instruction ≡ i = same_at instructions place t.0.instruction i here at' in
+    each = λ address path i at at'.
+        let t = entry_at address path at in
+        let here = subst (λ k. IsAt instructions k t.0.instruction) t.2 (map_at (λ (t : Entry). t.instruction) entries t.0.address t.0 (address_of_entry t.0 t.1)) in
+        let same : t.0.instruction ≡ i = same_at instructions address t.0.instruction i here at' in
         subst (IsInstruction (selectors_in by_keys f) paths path) same (subst (λ q. IsInstruction (selectors_in by_keys f) paths q t.0.instruction) t.3 (instruction_right by_keys t.0 t.1));
   }
 

@@ -12,7 +12,7 @@ pub mod PathLists
 pub mod Selectors
 pub mod TestRows
 pub mod CompiledLists
-pub mod ListPlaces
+pub mod ListIndices
 pub mod Apart
 pub mod ByType
 pub mod Laid

@@ -8,7 +8,7 @@ use Rattle.lol_instructions.specs.Compounds.{Compound}
 use Rattle.lol_program.specs.Forest.{Node, Forest, none, link, size, SiblingsDiffer}
 use Rattle.lol_css.specs.declared.selector.Compound as css
 use Rattle.lol_program.proofs.Grown.{added_differ, first_differ}
-use Rattle.lol_program.specs.Places.{IsPlace, HasPlace, IsNowhere}
+use Rattle.lol_program.specs.Indices.{IsIndex, HasIndex, IsNowhere}
 use Rattle.lol_program.specs.Growth.{fresh, AtRoot, Takes, Under, Adds, AddsFirst}
 use Rattle.lol_program.specs.Views.{node_of, forest_of, linked, steps_of, tests_of_compound}
 use Rattle.lol_program.specs.declared.ast_node.AstNode.{AstNode}
@@ -17,7 +17,7 @@ use Rattle.lol_program.specs.declared.ast_node.AstNode.TheViews.{out-AstNode, ro
 use Rattle.lol_program.specs.NodeViewLaws.{shape, node_roll, node_out}
 
 module _ (c : Compound) (R : Node → Node → Type 0) (m : Node) where
-  at_found : (nodes : List Node) (i : ℕ) (d : Node) → IsPlace c nodes i → R (get_or nodes i d) m → AtRoot c R (linked nodes) (linked (slice_set nodes i m))
+  at_found : (nodes : List Node) (i : ℕ) (d : Node) → IsIndex c nodes i → R (get_or nodes i d) m → AtRoot c R (linked nodes) (linked (slice_set nodes i m))
   at_found [] i d p r = absurd (omega (arith, p.within))
   at_found (n ∷ nodes) zero d p r = inl (p.here d, m, r, refl)
   at_found (n ∷ nodes) (suc i) d p r =
@@ -27,31 +27,31 @@ module _ (c : Compound) (R : Node → Node → Type 0) (m : Node) where
   at_end [] nowhere r = (m, r, refl)
   at_end (n ∷ nodes) nowhere r = inr (nowhere 0 n (omega arith), linked (nodes ++ m ∷ []), at_end nodes (λ k d h. nowhere (suc k) d (omega arith)) r, refl)
 
-  at_place : (old mid : List Node) (i : ℕ) (d : Node) → HasPlace c old mid i → R (get_or mid i d) m → AtRoot c R (linked old) (linked (slice_set mid i m))
-  at_place old mid i d (inl h) r =
+  at_index : (old mid : List Node) (i : ℕ) (d : Node) → HasIndex c old mid i → R (get_or mid i d) m → AtRoot c R (linked old) (linked (slice_set mid i m))
+  at_index old mid i d (inl h) r =
       subst (λ (ns : List Node). AtRoot c R (linked old) (linked (slice_set ns i m))) (sym h.0) (at_found old i d h.1 (subst (λ (ns : List Node). R (get_or ns i d) m) h.0 r))
-  at_place old mid i d (inr h) r =
+  at_index old mid i d (inr h) r =
       let e : slice_set mid i m ≡ old ++ m ∷ [] = ap (λ ns. slice_set ns i m) h.0 ∙ (ap (λ k. slice_set (old ++ fresh c ∷ []) k m) h.1 ∙ set-append_seam old (fresh c) [] m) in
       let f : get_or mid i d ≡ fresh c = ap (λ ns. get_or ns i d) h.0 ∙ (ap (λ k. get_or (old ++ fresh c ∷ []) k d) h.1 ∙ get_or-append_seam old (fresh c) [] d) in
       subst (λ (ns : List Node). AtRoot c R (linked old) (linked ns)) (sym e) (at_end old h.2 (subst (λ (n : Node). R n m) f r))
 
-node_within : (c : Compound) (old mid : List Node) (i : ℕ) → HasPlace c old mid i → i < length mid
+node_within : (c : Compound) (old mid : List Node) (i : ℕ) → HasIndex c old mid i → i < length mid
 node_within c old mid i (inl h) = subst (λ (ns : List Node). i < length ns) (sym h.0) h.1.within
 node_within c old mid i (inr h) = omega (arith, h.1, ap length h.0, length-append old (fresh c ∷ []))
 
-pub place_within : (c : Compound) (old mid : List AstNode) (i : ℕ) → HasPlace c (map node_of old) (map node_of mid) i → i < length mid
-place_within c old mid i h = omega (arith, node_within c (map node_of old) (map node_of mid) i h, length-map mid node_of)
+pub index_within : (c : Compound) (old mid : List AstNode) (i : ℕ) → HasIndex c (map node_of old) (map node_of mid) i → i < length mid
+index_within c old mid i h = omega (arith, node_within c (map node_of old) (map node_of mid) i h, length-map mid node_of)
 
 -- the node at i becomes x
-pub set_place : (c : Compound) (R : Node → Node → Type 0) (old mid : List AstNode) (i : ℕ) (n : AstNode) (x : AstNode-F AstNode)
-    → HasPlace c (map node_of old) (map node_of mid) i → n ≡ get_or mid i n → R (shape (out-AstNode n)) (shape x)
+pub set_at_index : (c : Compound) (R : Node → Node → Type 0) (old mid : List AstNode) (i : ℕ) (n : AstNode) (x : AstNode-F AstNode)
+    → HasIndex c (map node_of old) (map node_of mid) i → n ≡ get_or mid i n → R (shape (out-AstNode n)) (shape x)
     → AtRoot c R (forest_of old) (forest_of (slice_set mid i (roll-AstNode x)))
-set_place c R old mid i n x h at r =
-    let within = place_within c old mid i h in
+set_at_index c R old mid i n x h at r =
+    let within = index_within c old mid i h in
     let e : map node_of (slice_set mid i (roll-AstNode x)) ≡ slice_set (map node_of mid) i (shape x) = map-set node_of mid i (roll-AstNode x) ∙ ap (λ y. slice_set (map node_of mid) i y) (node_roll x) in
     let f : get_or (map node_of mid) i (node_of n) ≡ shape (out-AstNode n) = get_or-map node_of mid i n (node_of n) within ∙ (ap node_of (sym at) ∙ node_out n) in
     subst (λ (ns : List Node). AtRoot c R (forest_of old) (linked ns)) (sym e)
-    (at_place c R (shape x) (map node_of old) (map node_of mid) i (node_of n) h (subst (λ (y : Node). R y (shape x)) (sym f) r))
+    (at_index c R (shape x) (map node_of old) (map node_of mid) i (node_of n) h (subst (λ (y : Node). R y (shape x)) (sym f) r))
 
 size_link : (n : Node) (rest : Forest) → size (link n rest) ≡ size (link n none) + size rest
 size_link n rest = omega arith

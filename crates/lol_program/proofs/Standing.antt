@@ -7,7 +7,7 @@ use Rattle.lol_css.specs.declared.selector.Combinator.TheVariants.{Child, Descen
 use Rattle.lol_instructions.specs.Compounds.{Compound}
 use Rattle.lol_program.specs.Forest.{Node, Forest, none, more}
 use Rattle.lol_program.specs.Growth.{fresh, AtRoot, Takes, Under, grown_under, Adds, AddsFirst, AtTop, StandsWith, StandsUnder, IsWith}
-use Rattle.lol_program.specs.Places.{IsPlace, HasPlace, IsNowhere}
+use Rattle.lol_program.specs.Indices.{IsIndex, HasIndex, IsNowhere}
 use Rattle.lol_program.specs.IdsForNodes.{SetTakes}
 use Rattle.lol_program.specs.Views.{node_of, forest_of, linked, steps_of, tests_of_compound}
 use Rattle.lol_css.specs.declared.selector.Compound as css
@@ -15,7 +15,7 @@ use Rattle.lol_program.specs.declared.ast_node.AstNode.{AstNode}
 use Rattle.lol_program.specs.declared.ast_node.AstNode.TheViews.{out-AstNode}
 use Rattle.lol_program.specs.NodeViewLaws.{shape, node_out}
 use Rattle.lol_program.specs.IdSetLaws.{with_id-IsWith}
-use Rattle.lol_program.proofs.Placed.{place_within}
+use Rattle.lol_program.proofs.Placed.{index_within}
 use Rattle.lol_program.proofs.Grown.{under_same, takes_same}
 
 -- a node's set that takes an id, or none
@@ -30,34 +30,34 @@ module _ (c : Compound) (P : Node → Type 0) where
   at_top_nowhere (n ∷ nodes) nowhere (inl h) = nowhere 0 n (omega arith) h.0
   at_top_nowhere (n ∷ nodes) nowhere (inr h) = at_top_nowhere nodes (λ k d l. nowhere (suc k) d (omega (arith, l))) h.1
 
-  at_top_place : (nodes : List Node) (i : ℕ) (d : Node) → IsPlace c nodes i → AtTop c P (linked nodes) → P (get_or nodes i d)
-  at_top_place [] i d p t = absurd t
-  at_top_place (n ∷ nodes) zero d p (inl h) = h.1
-  at_top_place (n ∷ nodes) zero d p (inr h) = absurd (h.0 (p.here d))
-  at_top_place (n ∷ nodes) (suc i) d p (inl h) = absurd (p.before 0 d (omega arith) h.0)
-  at_top_place (n ∷ nodes) (suc i) d p (inr h) = at_top_place nodes i d (record { within = omega (arith, p.within); here = λ e. p.here e; before = λ k e l. p.before (suc k) e (omega (arith, l)) }) h.1
+  at_top_index : (nodes : List Node) (i : ℕ) (d : Node) → IsIndex c nodes i → AtTop c P (linked nodes) → P (get_or nodes i d)
+  at_top_index [] i d p t = absurd t
+  at_top_index (n ∷ nodes) zero d p (inl h) = h.1
+  at_top_index (n ∷ nodes) zero d p (inr h) = absurd (h.0 (p.here d))
+  at_top_index (n ∷ nodes) (suc i) d p (inl h) = absurd (p.before 0 d (omega arith) h.0)
+  at_top_index (n ∷ nodes) (suc i) d p (inr h) = at_top_index nodes i d (record { within = omega (arith, p.within); here = λ e. p.here e; before = λ k e l. p.before (suc k) e (omega (arith, l)) }) h.1
 
   -- at the node that was found
-  pub stands_at : (old mid : List AstNode) (i : ℕ) (n : AstNode) → HasPlace c (map node_of old) (map node_of mid) i → n ≡ get_or mid i n → AtTop c P (forest_of old) → P (shape (out-AstNode n))
+  pub stands_at : (old mid : List AstNode) (i : ℕ) (n : AstNode) → HasIndex c (map node_of old) (map node_of mid) i → n ≡ get_or mid i n → AtTop c P (forest_of old) → P (shape (out-AstNode n))
   stands_at old mid i n (inl h) at t =
-      let found = at_top_place (map node_of old) i (node_of n) h.1 t in
+      let found = at_top_index (map node_of old) i (node_of n) h.1 t in
       let same : get_or (map node_of old) i (node_of n) ≡ shape (out-AstNode n) =
-      ap (λ (ns : List Node). get_or ns i (node_of n)) (sym h.0) ∙ (get_or-map node_of mid i n (node_of n) (place_within c old mid i (inl h)) ∙ (ap node_of (sym at) ∙ node_out n)) in
+      ap (λ (ns : List Node). get_or ns i (node_of n)) (sym h.0) ∙ (get_or-map node_of mid i n (node_of n) (index_within c old mid i (inl h)) ∙ (ap node_of (sym at) ∙ node_out n)) in
       subst P same found
   stands_at old mid i n (inr h) at t = absurd (at_top_nowhere (map node_of old) h.2 t)
 
-  place_at_top : (nodes : List Node) (i : ℕ) (d : Node) → IsPlace c nodes i → P (get_or nodes i d) → AtTop c P (linked nodes)
-  place_at_top [] i d p h = absurd (omega (arith, p.within))
-  place_at_top (n ∷ nodes) zero d p h = inl (p.here d, h)
-  place_at_top (n ∷ nodes) (suc i) d p h =
-      inr (p.before 0 d (omega arith), place_at_top nodes i d (record { within = omega (arith, p.within); here = λ e. p.here e; before = λ k e l. p.before (suc k) e (omega (arith, l)) }) h)
+  index_at_top : (nodes : List Node) (i : ℕ) (d : Node) → IsIndex c nodes i → P (get_or nodes i d) → AtTop c P (linked nodes)
+  index_at_top [] i d p h = absurd (omega (arith, p.within))
+  index_at_top (n ∷ nodes) zero d p h = inl (p.here d, h)
+  index_at_top (n ∷ nodes) (suc i) d p h =
+      inr (p.before 0 d (omega arith), index_at_top nodes i d (record { within = omega (arith, p.within); here = λ e. p.here e; before = λ k e l. p.before (suc k) e (omega (arith, l)) }) h)
 
   -- what holds at the first root with the compound is what holds at the node that was found
-  pub top_is_at : (nodes : List AstNode) (i : ℕ) (n : AstNode) → IsPlace c (map node_of nodes) i → n ≡ get_or nodes i n → AtTop c P (forest_of nodes) ↔ P (shape (out-AstNode n))
+  pub top_is_at : (nodes : List AstNode) (i : ℕ) (n : AstNode) → IsIndex c (map node_of nodes) i → n ≡ get_or nodes i n → AtTop c P (forest_of nodes) ↔ P (shape (out-AstNode n))
   top_is_at nodes i n p at =
       let same : get_or (map node_of nodes) i (node_of n) ≡ shape (out-AstNode n) =
-      get_or-map node_of nodes i n (node_of n) (place_within c nodes nodes i (inl (refl, p))) ∙ (ap node_of (sym at) ∙ node_out n) in
-      (λ t. subst P same (at_top_place (map node_of nodes) i (node_of n) p t), λ h. place_at_top (map node_of nodes) i (node_of n) p (subst P (sym same) h))
+      get_or-map node_of nodes i n (node_of n) (index_within c nodes nodes i (inl (refl, p))) ∙ (ap node_of (sym at) ∙ node_out n) in
+      (λ t. subst P same (at_top_index (map node_of nodes) i (node_of n) p t), λ h. index_at_top (map node_of nodes) i (node_of n) p (subst P (sym same) h))
 
 module _ (P : List ℕ → Type 0) where
   pub stands_nowhere : (c : Compound) (rest : List (Combinator × Compound)) (nodes : List Node) → IsNowhere c nodes → StandsWith P c rest (linked nodes) → ⊥
@@ -76,7 +76,7 @@ module _ (P : List ℕ → Type 0) where
       ap (λ (ss : List (Combinator × css.Compound)). StandsWith P c (steps_of ss) f) e ∙ ap (λ (t : Combinator). AtTop c (λ n. StandsWith P (tests_of_compound s.1) (steps_of rest) (grown_under t n)) f) g
 
   -- what stands of a path of one compound, or of several, at the node that was found
-  pub stands_here : (c : Compound) (rest : List (Combinator × css.Compound)) (nodes : List AstNode) (i : ℕ) (n : AstNode) → length rest ≡ 0 → IsPlace c (map node_of nodes) i → n ≡ get_or nodes i n
+  pub stands_here : (c : Compound) (rest : List (Combinator × css.Compound)) (nodes : List AstNode) (i : ℕ) (n : AstNode) → length rest ≡ 0 → IsIndex c (map node_of nodes) i → n ≡ get_or nodes i n
       → StandsWith P c (steps_of rest) (forest_of nodes) ↔ P (ascending (out-AstNode n).match_ids)
   stands_here c rest nodes i n e p at =
       let same = stands_none c rest (forest_of nodes) e in
@@ -84,7 +84,7 @@ module _ (P : List ℕ → Type 0) where
       (λ s. law.0 (subst (λ (X : Type 0). X) same s), λ h. subst (λ (X : Type 0). X) (sym same) (law.1 h))
 
   pub stands_further : (c : Compound) (all rest : List (Combinator × css.Compound)) (s : Combinator × css.Compound) (step : Combinator) (nodes : List AstNode) (i : ℕ) (n : AstNode)
-      → all ≡ s ∷ rest → s.0 ≡ step → IsPlace c (map node_of nodes) i → n ≡ get_or nodes i n
+      → all ≡ s ∷ rest → s.0 ≡ step → IsIndex c (map node_of nodes) i → n ≡ get_or nodes i n
       → StandsWith P c (steps_of all) (forest_of nodes) ↔ StandsWith P (tests_of_compound s.1) (steps_of rest) (grown_under step (shape (out-AstNode n)))
   stands_further c all rest s step nodes i n e g p at =
       let same = stands_some c all rest s step (forest_of nodes) e g in
@@ -92,12 +92,12 @@ module _ (P : List ℕ → Type 0) where
       (λ t. law.0 (subst (λ (X : Type 0). X) same t), λ h. subst (λ (X : Type 0). X) (sym same) (law.1 h))
 
   -- what stood of the path where the node was found, or would be made
-  pub stands_last : (c : Compound) (rest : List (Combinator × css.Compound)) (old mid : List AstNode) (i : ℕ) (n : AstNode) → length rest ≡ 0 → HasPlace c (map node_of old) (map node_of mid) i → n ≡ get_or mid i n
+  pub stands_last : (c : Compound) (rest : List (Combinator × css.Compound)) (old mid : List AstNode) (i : ℕ) (n : AstNode) → length rest ≡ 0 → HasIndex c (map node_of old) (map node_of mid) i → n ≡ get_or mid i n
       → StandsWith P c (steps_of rest) (forest_of old) → P (ascending (out-AstNode n).match_ids)
   stands_last c rest old mid i n e h at s = stands_at c (λ m. P m.ids) old mid i n h at (subst (λ (X : Type 0). X) (stands_none c rest (forest_of old) e) s)
 
   pub stands_next : (c : Compound) (all rest : List (Combinator × css.Compound)) (s : Combinator × css.Compound) (step : Combinator) (old mid : List AstNode) (i : ℕ) (n : AstNode)
-      → all ≡ s ∷ rest → s.0 ≡ step → HasPlace c (map node_of old) (map node_of mid) i → n ≡ get_or mid i n
+      → all ≡ s ∷ rest → s.0 ≡ step → HasIndex c (map node_of old) (map node_of mid) i → n ≡ get_or mid i n
       → StandsWith P c (steps_of all) (forest_of old) → StandsWith P (tests_of_compound s.1) (steps_of rest) (grown_under step (shape (out-AstNode n)))
   stands_next c all rest s step old mid i n e g h at t =
       stands_at c (λ m. StandsWith P (tests_of_compound s.1) (steps_of rest) (grown_under step m)) old mid i n h at (subst (λ (X : Type 0). X) (stands_some c all rest s step (forest_of old) e g) t)

@@ -1,4 +1,4 @@
--- That an index has the key of each node but for the first few of each list.
+-- That a node index has the key of each node but for the first few of each list.
 use Rattle.std.specs.Coded.{×_prop, Unit-prop}
 use Rattle.std.specs.Prelude.{ℕ, ◌+◌, ◌≤◌, IsSome}
 use Rattle.std.specs.Ordering.{nat_cmp}
@@ -11,7 +11,7 @@ use Rattle.lol_program.specs.NodeKeys.{root_list, node_key, list_under}
 use Rattle.lol_program.specs.declared.node_index.NodeIndex.{NodeIndex}
 
 abbrev pub HasKey : NodeIndex → ℕ → Type 0
-HasKey index key = IsSome (get nat_cmp index.places key)
+HasKey node_index key = IsSome (get nat_cmp node_index.indices key)
 
 abbrev pub KeepsKeys : NodeIndex → NodeIndex → Type 0
 KeepsKeys old new = (key : ℕ) → HasKey old key → HasKey new key
@@ -20,35 +20,35 @@ KeepsKeys old new = (key : ℕ) → HasKey old key → HasKey new key
 abbrev pub few : ℕ
 few = 32
 
--- The node with these tests at a place of a list has its key there, from place `few` on.
+-- The node with these tests at an index of a list has its key there, from index `few` on.
 abbrev pub IsListed : NodeIndex → ℕ → ℕ → Compound → Type 0
-IsListed index list place compound = few ≤ place → HasKey index (node_key list compound)
+IsListed node_index list index compound = few ≤ index → HasKey node_index (node_key list compound)
 
--- Each of these trees' roots, which stand from a place of a list on, is listed, and so are the nodes under it.
+-- Each of these trees' roots, which stand from an index of a list on, is listed, and so are the nodes under it.
 abbrev pub IsIndexedFrom : NodeIndex → ℕ → ℕ → Forest → Type 0
-IsIndexedFrom index list place none = Unit {0}
-IsIndexedFrom index list place (more compound ids children descendants rest) =
-    IsListed index list place compound
-    × (IsIndexedFrom index (list_under list place Child) 0 children
-    × (IsIndexedFrom index (list_under list place Descendant) 0 descendants × IsIndexedFrom index list (place + 1) rest))
+IsIndexedFrom node_index list index none = Unit {0}
+IsIndexedFrom node_index list index (more compound ids children descendants rest) =
+    IsListed node_index list index compound
+    × (IsIndexedFrom node_index (list_under list index Child) 0 children
+    × (IsIndexedFrom node_index (list_under list index Descendant) 0 descendants × IsIndexedFrom node_index list (index + 1) rest))
 
 -- Each node of a list is listed, and so are those under it.
 abbrev pub IsIndexed : NodeIndex → ℕ → Forest → Type 0
-IsIndexed index list f = IsIndexedFrom index list 0 f
+IsIndexed node_index list f = IsIndexedFrom node_index list 0 f
 
-IsListed-prop : (index : NodeIndex) (list place : ℕ) (compound : Compound) → IsProp (IsListed index list place compound)
-IsListed-prop index list place compound f g = λ i many. Bool-set _ _ (f many) (g many) i
+IsListed-prop : (node_index : NodeIndex) (list index : ℕ) (compound : Compound) → IsProp (IsListed node_index list index compound)
+IsListed-prop node_index list index compound f g = λ i many. Bool-set _ _ (f many) (g many) i
 
-IsIndexedFrom-prop : (index : NodeIndex) (list place : ℕ) (f : Forest) → IsProp (IsIndexedFrom index list place f)
-IsIndexedFrom-prop index list place none = Unit-prop
-IsIndexedFrom-prop index list place (more compound ids children descendants rest) =
-    ×_prop (IsListed-prop index list place compound)
-    (×_prop (IsIndexedFrom-prop index (list_under list place Child) 0 children)
-    (×_prop (IsIndexedFrom-prop index (list_under list place Descendant) 0 descendants) (IsIndexedFrom-prop index list (place + 1) rest)))
+IsIndexedFrom-prop : (node_index : NodeIndex) (list index : ℕ) (f : Forest) → IsProp (IsIndexedFrom node_index list index f)
+IsIndexedFrom-prop node_index list index none = Unit-prop
+IsIndexedFrom-prop node_index list index (more compound ids children descendants rest) =
+    ×_prop (IsListed-prop node_index list index compound)
+    (×_prop (IsIndexedFrom-prop node_index (list_under list index Child) 0 children)
+    (×_prop (IsIndexedFrom-prop node_index (list_under list index Descendant) 0 descendants) (IsIndexedFrom-prop node_index list (index + 1) rest)))
 
 -- Each node of a tree is listed.
-abbrev pub IsIndexOf : NodeIndex → Forest → Type 0
-IsIndexOf index trees = IsIndexed index root_list trees
+abbrev pub IsNodeIndexOf : NodeIndex → Forest → Type 0
+IsNodeIndexOf node_index trees = IsIndexed node_index root_list trees
 
-pub IsIndexOf-prop : (index : NodeIndex) (trees : Forest) → IsProp (IsIndexOf index trees)
-IsIndexOf-prop index trees = IsIndexedFrom-prop index root_list 0 trees
+pub IsNodeIndexOf-prop : (node_index : NodeIndex) (trees : Forest) → IsProp (IsNodeIndexOf node_index trees)
+IsNodeIndexOf-prop node_index trees = IsIndexedFrom-prop node_index root_list 0 trees

@@ -19,21 +19,21 @@ abbrev pub range_of : Forest → ℕ → Option (Range ℕ)
 range_of none at = None
 range_of (more c ids children descendants rest) at = Some (record { start = at; end = at + suc (width rest) })
 
--- a node's instruction, where what is under it begins at a free place
+-- a node's instruction, where what is under it begins at a free address
 abbrev pub instruction_of : Compound → List ℕ → Forest → Forest → ℕ → Instruction
 instruction_of c ids children descendants free =
     record { value = by_names c; holds = all_hold c; keys = both_keys c; ids = ids; jumps = range_of children free; hereditary_jumps = range_of descendants (free + size children) }
 
 pub record Entry : Type 0 where
-  pub place : ℕ
+  pub address : ℕ
   pub path : Path
   pub instruction : Instruction
 
--- siblings from a place on, where what is under them begins at a free place
+-- siblings from an address on, where what is under them begins at a free address
 abbrev pub laid_tops : (Compound → Path) → Forest → ℕ → ℕ → List Entry
 laid_tops make none at free = []
 laid_tops make (more c ids children descendants rest) at free =
-    record { place = at; path = make c; instruction = instruction_of c ids children descendants free } ∷ laid_tops make rest (suc at) (free + (size children + size descendants))
+    record { address = at; path = make c; instruction = instruction_of c ids children descendants free } ∷ laid_tops make rest (suc at) (free + (size children + size descendants))
 
 -- what is under them
 abbrev pub laid_below : (Compound → Path) → Forest → ℕ → List Entry
@@ -65,17 +65,17 @@ program_of f =
       by_type = any_by_type f;
     }
 
--- The layout of a tree is a program of its selectors, whose places are those of its nodes in their order.
+-- The layout of a tree is a program of its selectors, whose addresses are those of its nodes in their order.
 abbrev pub LayoutsArePrograms : Type 0
 LayoutsArePrograms = (by_keys : Bool) (f : Forest) → SiblingsDiffer f → IsProgramOf (selectors_in by_keys f) (nodes_in First f) (program_of f)
 
--- No place stands in the ranges of two lists: those of two instructions or two steps, or one of them and the entry range.
+-- No address stands in the ranges of two lists: those of two instructions or two steps, or one of them and the entry range.
 abbrev pub RangesAreApart : Type 0
 RangesAreApart =
     (s : Selectors) (paths : List Path) (p : Program) → IsProgramOf s paths p
-    → (j k : ℕ) (x y : Instruction) (step step' : Combinator) (r r' : Range ℕ) (place : ℕ)
-    → IsAt p.instructions j x → IsAt p.instructions k y → range_by step x ≡ Some r → range_by step' y ≡ Some r' → IsWithin place r → IsWithin place r'
-    → (j ≡ k) × (step ≡ step') × (IsWithin place p.entry → ⊥)
+    → (j k : ℕ) (x y : Instruction) (step step' : Combinator) (r r' : Range ℕ) (address : ℕ)
+    → IsAt p.instructions j x → IsAt p.instructions k y → range_by step x ≡ Some r → range_by step' y ≡ Some r' → IsWithin address r → IsWithin address r'
+    → (j ≡ k) × (step ≡ step') × (IsWithin address p.entry → ⊥)
 
 -- Worked row: `div p` under 0 and `div > p` under 1.
 abbrev pub div_p : Compound → Compound → Forest

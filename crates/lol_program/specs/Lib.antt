@@ -6,9 +6,9 @@ pub mod Predicates
 pub mod Forest
 pub mod Growth
 pub mod NodeKeys
-pub mod IndexLaws
+pub mod NodeIndexLaws
 pub mod Indexed
-pub mod Places
+pub mod Indices
 pub mod Views
 pub mod IdsForNodes
 pub mod AstPaths

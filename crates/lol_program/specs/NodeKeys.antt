@@ -85,10 +85,10 @@ abbrev pub multiplier : Combinator → ℕ
 multiplier Child = 11400714819323198485
 multiplier Descendant = 13787848793156543929
 
--- the list of the nodes by a step under the node at a place of a list
+-- the list of the nodes by a step under the node at an index of a list
 abbrev pub list_under : ℕ → ℕ → Combinator → ℕ
-list_under list place step =
-    let product = (bit_xor list place * multiplier step) % 2 ^ 64 in
+list_under list index step =
+    let product = (bit_xor list index * multiplier step) % 2 ^ 64 in
     bit_xor product (product / 2 ^ 32)
 
 -- the node with these tests in a list

@@ -12,16 +12,16 @@ use Rattle.lol_instructions.specs.declared.name_value.NameValue.{NameValue}
 
 -- 1. Ranges and instructions
 
--- A range has the places from its start up to its end.
+-- A range has the addresses from its start up to its end.
 abbrev pub IsWithin : ℕ → Range ℕ → Type 0
-IsWithin place r = (r.start ≤ place) × (place < r.end)
+IsWithin address r = (r.start ≤ address) × (address < r.end)
 
-abbrev pub places : Range ℕ → List ℕ
-places r = range_with_len r.start (r.end - r.start)
+abbrev pub addresses : Range ℕ → List ℕ
+addresses r = range_with_len r.start (r.end - r.start)
 
--- the places of ranges, one range after the other
-abbrev pub all_places : List (Range ℕ) → List ℕ
-all_places ranges = flat_map places ranges
+-- the addresses of ranges, one range after the other
+abbrev pub all_addresses : List (Range ℕ) → List ℕ
+all_addresses ranges = flat_map addresses ranges
 
 -- An instruction by its meaning: its value by names at an element, whether it holds there with the attributes, its keys, its ids, and where
 -- the nodes under it stand, by a child step and by a descendant step.
@@ -46,7 +46,7 @@ above (First c) = None
 above (Then front step c) = Some (front, step)
 
 abbrev pub IsAt : {A : Type 0} → List A → ℕ → A → Type 0
-IsAt xs place x = slice_get xs place ≡ Some x
+IsAt xs address x = slice_get xs address ≡ Some x
 
 abbrev pub Once : {A : Type 0} → List A → Type 0
 Once xs = AllPairs (λ a b. a ≢ b) xs
@@ -60,16 +60,16 @@ pub record AreClosed (s : Selectors) : Type 0 where
 
 -- 3. Programs
 
--- a range lies within the places and holds exactly those of the paths under this
-pub record HoldsPlaces (paths : List Path) (r : Range ℕ) (under : Option (Path × Combinator)) : Type 0 where
+-- a range lies within the addresses and holds exactly those of the paths under this
+pub record HoldsAddresses (paths : List Path) (r : Range ℕ) (under : Option (Path × Combinator)) : Type 0 where
   pub ordered : r.start ≤ r.end
   pub inside : r.end ≤ length paths
-  pub members : (place : ℕ) → IsWithin place r ↔ ((path : Path) × IsAt paths place path × (above path ≡ under))
+  pub members : (address : ℕ) → IsWithin address r ↔ ((path : Path) × IsAt paths address path × (above path ≡ under))
 
 -- the range of the paths under this, which isn't empty; none where there is no such path
 abbrev pub IsRangeOf : List Path → Option (Range ℕ) → Option (Path × Combinator) → Type 0
-IsRangeOf paths None under = (place : ℕ) (path : Path) → IsAt paths place path → above path ≡ under → ⊥
-IsRangeOf paths (Some r) under = HoldsPlaces paths r under × (r.start < r.end)
+IsRangeOf paths None under = (address : ℕ) (path : Path) → IsAt paths address path → above path ≡ under → ⊥
+IsRangeOf paths (Some r) under = HoldsAddresses paths r under × (r.start < r.end)
 
 -- an instruction means a compound: at every element
 abbrev pub Means : Instruction → Compound → Type 0
@@ -82,14 +82,14 @@ pub record IsInstruction (s : Selectors) (paths : List Path) (path : Path) (i : 
   pub jumps : IsRangeOf paths i.jumps (Some (path, Child))
   pub hereditary_jumps : IsRangeOf paths i.hereditary_jumps (Some (path, Descendant))
 
--- A program of selectors, whose place p is that of the p-th of these paths.
+-- A program of selectors, whose address p is that of the p-th of these paths.
 pub record IsProgramOf (s : Selectors) (paths : List Path) (p : Program) : Type 0 where
   pub same : (path : Path) → Contains paths path ↔ Contains s.nodes path
   pub once : Once paths
   pub count : length p.instructions ≡ length paths
-  pub entry : HoldsPlaces paths p.entry None
+  pub entry : HoldsAddresses paths p.entry None
   pub by_type : p.by_type ≡ list_any (λ path. has_test_by_type (last_compound path)) paths
-  pub each : (place : ℕ) (path : Path) (i : Instruction) → IsAt paths place path → IsAt p.instructions place i → IsInstruction s paths path i
+  pub each : (address : ℕ) (path : Path) (i : Instruction) → IsAt paths address path → IsAt p.instructions address i → IsInstruction s paths path i
 
 -- the range of an instruction by a step
 abbrev pub range_by : Combinator → Instruction → Option (Range ℕ)

@@ -2,7 +2,7 @@
 
 ghost use Rattle.std.specs.Prelude.{◌≡◌};
 ghost use Rattle.lol_program.specs.Forest.{size, SiblingsDiffer, SiblingsDiffer-prop};
-ghost use Rattle.lol_program.specs.Indexed.{IsIndexOf, IsIndexOf-prop};
+ghost use Rattle.lol_program.specs.Indexed.{IsNodeIndexOf, IsNodeIndexOf-prop};
 ghost use Rattle.lol_program.specs.Views.{forest_of};
 
 use crate::ast_node::{self, AstNode};
@@ -22,11 +22,11 @@ pub const ROWS_PAY_FROM: usize = 256;
 pub struct Ast {
     alloc: Global,
     root: Vec<AstNode>,
-    index: NodeIndex,
+    node_index: NodeIndex,
     with_rows: bool,
-    ghost counted: { index.node_count ≡ size (forest_of root.items) },
+    ghost counted: { node_index.node_count ≡ size (forest_of root.items) },
     ghost siblings: { SiblingsDiffer (forest_of root.items) } by { SiblingsDiffer-prop (forest_of root.items) },
-    ghost indexed: { IsIndexOf index (forest_of root.items) } by { IsIndexOf-prop index (forest_of root.items) },
+    ghost indexed: { IsNodeIndexOf node_index (forest_of root.items) } by { IsNodeIndexOf-prop node_index (forest_of root.items) },
 }
 
 impl Ast {
@@ -48,7 +48,7 @@ impl Ast {
         Ast {
             alloc,
             root: Vec::new(alloc),
-            index: NodeIndex::new(alloc),
+            node_index: NodeIndex::new(alloc),
             with_rows: false,
         }
     }
@@ -102,7 +102,7 @@ impl Ast {
         ensures count { result ≡ length (nodes_of self.now) }
         ensures each_once { AllPairs (λ a b. a ≢ b) (nodes_of self.now) }
     {
-        self.index.node_count
+        self.node_index.node_count
     }
 
     /// Adds each item of a selector's list under an id: its compounds from the left, each step under the node of the one before it. A
@@ -178,7 +178,7 @@ impl Ast {
         ensures rows { is_with_rows self.new ≡ is_with_rows self.old }
     {
         ast_node::add_path(
-            &mut self.index,
+            &mut self.node_index,
             &mut self.root,
             ROOT_LIST,
             &item.first,
@@ -247,7 +247,7 @@ impl Ast {
         ensures fits { IfOk result (λ id. IsInWith (Fits id) (trees_of self.now) item.now) }
     {
         ast_node::reserve_id(
-            &self.index,
+            &self.node_index,
             &self.root,
             ROOT_LIST,
             &item.first,

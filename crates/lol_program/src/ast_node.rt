@@ -7,7 +7,7 @@ ghost use Rattle.lol_program.specs.Forest.{size, SiblingsDiffer};
 ghost use Rattle.lol_program.specs.Indexed.{IsIndexed, KeepsKeys};
 ghost use Rattle.lol_program.specs.Growth.{fresh, Adds, AddsFirst, StandsWith, StandsUnder};
 ghost use Rattle.lol_program.specs.IdsForNodes.{id_in, Fits, IsReserved};
-ghost use Rattle.lol_program.specs.Places.{HasPlace, IsNowhere};
+ghost use Rattle.lol_program.specs.Indices.{HasIndex, IsNowhere};
 
 use crate::node_id::IdForNode;
 use crate::node_index::NodeIndex;
@@ -42,50 +42,50 @@ fn fresh_node(alloc: Global, predicate: Predicate) -> AstNode
     }
 }
 
-/// The place of the node with the tests of a compound, in the list with the key `list`. It is made last where there is none.
+/// The index of the node with the tests of a compound, in the list with the key `list`. It is made last where there is none.
 // Inlined, it would make each step of a recursion take more of the stack.
 #[inline(never)]
-fn place_for(
-    index: &mut NodeIndex,
+fn index_for(
+    node_index: &mut NodeIndex,
     nodes: &mut Vec<AstNode>,
     list: u64,
     compound: &Compound,
 ) -> Result<usize, AllocError>
-    requires indexed { IsIndexed index.old list (forest_of nodes.old.items) }
+    requires indexed { IsIndexed node_index.old list (forest_of nodes.old.items) }
     requires differ { SiblingsDiffer (forest_of nodes.old.items) }
-    ensures place { IfOk result
-        (HasPlace (tests_of_compound compound.now) (map node_of nodes.old.items) (map node_of nodes.new.items)) }
+    ensures index { IfOk result
+        (HasIndex (tests_of_compound compound.now) (map node_of nodes.old.items) (map node_of nodes.new.items)) }
     ensures free { OnErr result (IsNowhere (tests_of_compound compound.now) (map node_of nodes.old.items)) }
     ensures unchanged { OnErr result (nodes.new.items ≡ nodes.old.items) }
-    ensures count { index.new.node_count + size (forest_of nodes.old.items)
-        ≡ index.old.node_count + size (forest_of nodes.new.items) }
-    ensures indexed { IsIndexed index.new list (forest_of nodes.new.items) }
-    ensures keeps { KeepsKeys index.old index.new }
+    ensures count { node_index.new.node_count + size (forest_of nodes.old.items)
+        ≡ node_index.old.node_count + size (forest_of nodes.new.items) }
+    ensures indexed { IsIndexed node_index.new list (forest_of nodes.new.items) }
+    ensures keeps { KeepsKeys node_index.old node_index.new }
 {
-    if let Some(place) = index.place_of(nodes, list, compound) {
-        return Ok(place);
+    if let Some(index) = node_index.index_of(nodes, list, compound) {
+        return Ok(index);
     }
-    let Some(more) = index.node_count.checked_add(1) else {
+    let Some(more) = node_index.node_count.checked_add(1) else {
         return Err(AllocError);
     };
-    let place = nodes.len();
-    let predicate = Predicate::from_compound(index.alloc, compound)?;
-    index.insert(list, place, compound)?;
-    nodes.push(fresh_node(index.alloc, predicate))?;
-    index.node_count = more;
-    Ok(place)
+    let index = nodes.len();
+    let predicate = Predicate::from_compound(node_index.alloc, compound)?;
+    node_index.insert(list, index, compound)?;
+    nodes.push(fresh_node(node_index.alloc, predicate))?;
+    node_index.node_count = more;
+    Ok(index)
 }
 
 /// Makes the nodes of an item that aren't there, in the list where it begins, and gives its last node an id or none.
 pub(crate) fn add_path(
-    index: &mut NodeIndex,
+    node_index: &mut NodeIndex,
     nodes: &mut Vec<AstNode>,
     list: u64,
     first: &Compound,
     rest: &[(Combinator, Compound)],
     id: IdForNode,
 ) -> Result<(), AllocError>
-    requires indexed { IsIndexed index.old list (forest_of nodes.old.items) }
+    requires indexed { IsIndexed node_index.old list (forest_of nodes.old.items) }
     requires differ { SiblingsDiffer (forest_of nodes.old.items) }
     requires fits { IsReserved id
         → StandsWith (Fits id) (tests_of_compound first.now) (steps_of rest.now) (forest_of nodes.old.items) }
@@ -96,21 +96,28 @@ pub(crate) fn add_path(
         (forest_of nodes.old.items) (forest_of nodes.new.items)) }
     ensures free { StandsWith (Fits id) (tests_of_compound first.now) (steps_of rest.now) (forest_of nodes.old.items)
         → IsOk result }
-    ensures count { index.new.node_count + size (forest_of nodes.old.items)
-        ≡ index.old.node_count + size (forest_of nodes.new.items) }
-    ensures indexed { IsIndexed index.new list (forest_of nodes.new.items) }
-    ensures keeps { KeepsKeys index.old index.new }
+    ensures count { node_index.new.node_count + size (forest_of nodes.old.items)
+        ≡ node_index.old.node_count + size (forest_of nodes.new.items) }
+    ensures indexed { IsIndexed node_index.new list (forest_of nodes.new.items) }
+    ensures keeps { KeepsKeys node_index.old node_index.new }
 {
-    let place = place_for(index, nodes, list, first)?;
-    let node = &mut nodes[place];
+    let index = index_for(node_index, nodes, list, first)?;
+    let node = &mut nodes[index];
     match rest.split_first() {
         None => id.add_to(&mut node.match_ids),
         Some(((combinator, compound), rest)) => {
-            let list = list_under(list, place, *combinator);
+            let list = list_under(list, index, *combinator);
             match combinator {
-                Combinator::Child => add_path(index, &mut node.children, list, compound, rest, id),
+                Combinator::Child => add_path(
+                    node_index,
+                    &mut node.children,
+                    list,
+                    compound,
+                    rest,
+                    id,
+                ),
                 Combinator::Descendant => {
-                    add_path(index, &mut node.descendants, list, compound, rest, id)
+                    add_path(node_index, &mut node.descendants, list, compound, rest, id)
                 }
             }
         }
@@ -119,32 +126,39 @@ pub(crate) fn add_path(
 
 /// An id for the last node of a path that stands in the list where it begins, with memory of its own where the node has no room.
 pub(crate) fn reserve_id(
-    index: &NodeIndex,
+    node_index: &NodeIndex,
     nodes: &[AstNode],
     list: u64,
     first: &Compound,
     rest: &[(Combinator, Compound)],
     id: MatchId,
 ) -> Result<IdForNode, AllocError>
-    requires indexed { IsIndexed index.now list (forest_of nodes.now) }
+    requires indexed { IsIndexed node_index.now list (forest_of nodes.now) }
     requires differ { SiblingsDiffer (forest_of nodes.now) }
     requires stands { StandsUnder (tests_of_compound first.now) (steps_of rest.now) (forest_of nodes.now) }
     ensures given { IfOk result (λ reserved. id_in reserved ≡ Some id) }
     ensures fits { IfOk result (λ reserved.
         StandsWith (Fits reserved) (tests_of_compound first.now) (steps_of rest.now) (forest_of nodes.now)) }
 {
-    let Some(place) = index.place_of(nodes, list, first) else {
+    let Some(index) = node_index.index_of(nodes, list, first) else {
         unreachable!();
     };
-    let node = &nodes[place];
+    let node = &nodes[index];
     match rest.split_first() {
         None => IdForNode::reserve(&node.match_ids, id),
         Some(((combinator, compound), rest)) => {
-            let list = list_under(list, place, *combinator);
+            let list = list_under(list, index, *combinator);
             match combinator {
-                Combinator::Child => reserve_id(index, &node.children, list, compound, rest, id),
+                Combinator::Child => reserve_id(
+                    node_index,
+                    &node.children,
+                    list,
+                    compound,
+                    rest,
+                    id,
+                ),
                 Combinator::Descendant => {
-                    reserve_id(index, &node.descendants, list, compound, rest, id)
+                    reserve_id(node_index, &node.descendants, list, compound, rest, id)
                 }
             }
         }

@@ -56,9 +56,9 @@ impl Compiler {
         }
     }
 
-    /// The program of a tree. A list of siblings takes the next free places in one range, and after it, node by node, its children's list
-    /// and its descendants' list are laid out the same way. Names, operands and sets of ids move out of the tree, and nothing is cloned.
-    /// The program has rows if the compiler or the tree is with rows. It is refused where memory is.
+    /// The program of a tree. A list of siblings takes the next free addresses in one range, and after it, node by node, its children's
+    /// list and its descendants' list are laid out the same way. Names, operands and sets of ids move out of the tree, and nothing is
+    /// cloned. The program has rows if the compiler or the tree is with rows. It is refused where memory is.
     pub fn compile(self, ast: Ast) -> Result<Program, AllocError>
         ensures program { IfOk result (λ program. (by_keys : Bool)
             → IsProgramOf (selectors_in by_keys (trees_of ast)) (nodes_of ast) (program_shown program)) }
@@ -112,12 +112,12 @@ fn noops(alloc: Global, count: usize) -> Result<Vec<Instruction>, AllocError>
     Ok(instructions)
 }
 
-/// Instructions of which some stand in their places.
+/// Instructions of which some stand at their addresses.
 #[derive(Drop)]
 struct Layout {
     alloc: Global,
     instructions: Vec<Instruction>,
-    // The first place that no list of siblings has.
+    // The first address that no list of siblings has.
     free_space_start: usize,
     enable_nth_of_type: bool,
 }
@@ -136,11 +136,11 @@ impl Layout {
         ensures same { OnOk result (SameOutside self.old.free_space_start self.new.free_space_start
             self.old.instructions.items self.new.instructions.items) }
     {
-        let mut place = self.free_space_start;
+        let mut address = self.free_space_start;
         self.free_space_start += nodes.len();
         for node in nodes.iter_mut() {
-            self.compile_node(node, place)?;
-            place += 1;
+            self.compile_node(node, address)?;
+            address += 1;
         }
         Ok(())
     }
@@ -167,41 +167,41 @@ impl Layout {
         Ok(Some(range))
     }
 
-    /// Lays out what is under a node, and the node at its place.
+    /// Lays out what is under a node, and the node at its address.
     #[cycle(compile)]
-    fn compile_node(&mut self, node: &mut AstNode, place: usize) -> Result<(), AllocError>
+    fn compile_node(&mut self, node: &mut AstNode, address: usize) -> Result<(), AllocError>
         requires room { self.old.free_space_start
             + (size (node_of node.old).children + size (node_of node.old).descendants)
             ≤ length self.old.instructions.items }
-        requires place { place < self.old.free_space_start }
+        requires address { address < self.old.free_space_start }
         ensures free { OnOk result (self.new.free_space_start
             ≡ self.old.free_space_start + (size (node_of node.old).children + size (node_of node.old).descendants)) }
         ensures by_type { OnOk result (self.new.enable_nth_of_type
             ≡ (self.old.enable_nth_of_type || any_by_type (link (node_of node.old) none))) }
         ensures laid { OnOk result
-            (AreLaid self.new.instructions.items place self.old.free_space_start (link (node_of node.old) none)) }
-        ensures same { OnOk result (SameElsewhere place self.old.free_space_start self.new.free_space_start
+            (AreLaid self.new.instructions.items address self.old.free_space_start (link (node_of node.old) none)) }
+        ensures same { OnOk result (SameElsewhere address self.old.free_space_start self.new.free_space_start
             self.old.instructions.items self.new.instructions.items) }
     {
-        self.place_node(place, &mut node.predicate, &mut node.match_ids)?;
+        self.place_node(address, &mut node.predicate, &mut node.match_ids)?;
         let jumps = self.compile_list(&mut node.children)?;
         let hereditary_jumps = self.compile_list(&mut node.descendants)?;
-        self.set_jumps(place, jumps, hereditary_jumps);
+        self.set_jumps(address, jumps, hereditary_jumps);
         Ok(())
     }
 
-    /// Takes the tests and the ids of a node, and puts its instruction at a place, without ranges.
+    /// Takes the tests and the ids of a node, and puts its instruction at an address, without ranges.
     // Inlined, it would make each step of a recursion take more of the stack.
     #[inline(never)]
     fn place_node(
         &mut self,
-        place: usize,
+        address: usize,
         predicate: &mut Predicate,
         match_ids: &mut DenseHashSet,
     ) -> Result<(), AllocError>
-        requires { place < length self.old.instructions.items }
+        requires { address < length self.old.instructions.items }
         ensures placed { OnOk result
-            (IsPlaced place match_ids.old (tests_of predicate.old)
+            (IsPlaced address match_ids.old (tests_of predicate.old)
             self.old.instructions.items self.new.instructions.items) }
         ensures by_type { OnOk result (self.new.enable_nth_of_type
             ≡ (self.old.enable_nth_of_type || has_test_by_type (tests_of predicate.old))) }
@@ -219,23 +219,23 @@ impl Layout {
             hereditary_jumps: None,
         };
         let instruction = Instruction::new(associated_branch, predicate);
-        self.instructions[place] = instruction;
+        self.instructions[address] = instruction;
         Ok(())
     }
 
-    /// Gives the instruction at a place its ranges.
+    /// Gives the instruction at an address its ranges.
     fn set_jumps(
         &mut self,
-        place: usize,
+        address: usize,
         jumps: Option<AddressRange>,
         hereditary_jumps: Option<AddressRange>,
     )
-        requires { place < length self.old.instructions.items }
-        ensures jumps { HasJumps place jumps hereditary_jumps self.old.instructions.items self.new.instructions.items }
+        requires { address < length self.old.instructions.items }
+        ensures jumps { HasJumps address jumps hereditary_jumps self.old.instructions.items self.new.instructions.items }
         ensures by_type { self.new.enable_nth_of_type ≡ self.old.enable_nth_of_type }
         ensures free { self.new.free_space_start ≡ self.old.free_space_start }
     {
-        let branch = &mut self.instructions[place].associated_branch;
+        let branch = &mut self.instructions[address].associated_branch;
         branch.jumps = jumps;
         branch.hereditary_jumps = hereditary_jumps;
     }

@@ -41,12 +41,12 @@ pub fn worked_compounds()
     ensures { AreRows }
 {}
 
-/// The layout of a tree of selectors is a program of them, whose places are those of its nodes in their order.
+/// The layout of a tree of selectors is a program of them, whose addresses are those of its nodes in their order.
 pub fn layouts_are_programs()
     ensures { LayoutsArePrograms }
 {}
 
-/// The ranges of a program of selectors share no place.
+/// The ranges of a program of selectors share no address.
 pub fn ranges_are_apart()
     ensures { RangesAreApart }
 {}

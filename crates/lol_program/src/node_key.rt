@@ -1,4 +1,4 @@
-//! The keys by which nodes are found: made of their tests, and of the places of the nodes above them.
+//! The keys by which nodes are found: made of their tests, and of the indices of the nodes above them.
 
 ghost use Rattle.std.specs.Prelude.{◌≡◌, IfSome};
 ghost use Rattle.lol_css.specs.TreeViews.{part_of, item_of, list_of};
@@ -18,11 +18,11 @@ const END: u8 = 255;
 /// The key of the list of the nodes that stand under no other.
 pub(crate) const ROOT_LIST: u64 = 10_723_151_780_598_845_931;
 
-/// The key of the list of the nodes by a step under the node at a place of a list.
-pub(crate) fn list_under(list: u64, place: usize, combinator: Combinator) -> u64
-    ensures { result ≡ keys.list_under list place combinator }
+/// The key of the list of the nodes by a step under the node at an index of a list.
+pub(crate) fn list_under(list: u64, index: usize, combinator: Combinator) -> u64
+    ensures { result ≡ keys.list_under list index combinator }
 {
-    let product = (list ^ place as u64).wrapping_mul(multiplier(combinator));
+    let product = (list ^ index as u64).wrapping_mul(multiplier(combinator));
     product ^ (product >> 32)
 }
 

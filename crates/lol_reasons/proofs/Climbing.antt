@@ -12,7 +12,7 @@ use Rattle.lol_instructions.specs.Tests.{Element}
 use Rattle.lol_instructions.specs.Compounds.{Compound}
 use Rattle.lol_instructions.specs.declared.instruction.Instruction as code
 use Rattle.lol_program.specs.Paths.{Path, First, Then, Selectors}
-use Rattle.lol_program.specs.Programs.{Instruction, Program, IsWithin, IsAt, HoldsPlaces, IsRangeOf, IsProgramOf, AreClosed, above, range_by}
+use Rattle.lol_program.specs.Programs.{Instruction, Program, IsWithin, IsAt, HoldsAddresses, IsRangeOf, IsProgramOf, AreClosed, above, range_by}
 use Rattle.lol_program.specs.ProgramViews.{instruction_shown, program_shown}
 use Rattle.lol_program.specs.StepLaws.{one_front, one_step}
 use Rattle.lol_program.specs.declared.program.Program as program
@@ -86,7 +86,7 @@ module _ (s : Selectors) (paths : List Path) (p : Program) (closed : AreClosed s
       let there = found.0 within in
       ap above (same_at paths address path there.0 path_at there.1) ∙ there.2
     where
-      holds : (step : Combinator) → IsRangeOf paths i.jumps (Some (front, Child)) → IsRangeOf paths i.hereditary_jumps (Some (front, Descendant)) → range_by step i ≡ Some r → HoldsPlaces paths r (Some (front, step))
+      holds : (step : Combinator) → IsRangeOf paths i.jumps (Some (front, Child)) → IsRangeOf paths i.hereditary_jumps (Some (front, Descendant)) → range_by step i ≡ Some r → HoldsAddresses paths r (Some (front, step))
       holds Child jumps hereditary gives = (subst (λ o. IsRangeOf paths o (Some (front, Child))) gives jumps).0
       holds Descendant jumps hereditary gives = (subst (λ o. IsRangeOf paths o (Some (front, Descendant))) gives hereditary).0
 

@@ -17,7 +17,7 @@ use Rattle.lol_program.specs.Paths.{Path, all_beginnings, beginnings}
 use Rattle.lol_program.specs.Sets.{Joins, SameMembers}
 use Rattle.lol_reasons.specs.Explanations.{Added, Text, added_from, added_items, pairs_added}
 use Rattle.lol_reasons.specs.Numbered.{HoldsItems, added_by_text, item_path, items_of, numbered_from}
-use Rattle.lol_reasons.specs.ReasonLaws.{place_of_added}
+use Rattle.lol_reasons.specs.ReasonLaws.{source_of_added}
 use Rattle.lol_reasons.specs.declared.error.NumberingError.{NumberingError}
 use Rattle.lol_reasons.specs.declared.error.NumberingError.TheVariants.{Memory, TooManyItems}
 use Rattle.lol_reasons.specs.declared.texts.Numbering.{Numbering}
@@ -80,12 +80,12 @@ nodes_grown old new added a same joins = subst (SameMembers new) (sym all) (join
 
 pub grown : (added : List Added) (a : Added) (n : ℕ) (old new : Numbering) → n ≡ length (items_of old.explainer) → HoldsItems added old
     → Joins (pairs_of old.ast) (pairs_of new.ast) ((a.path, n) ∷ []) → Joins (nodes_of old.ast) (nodes_of new.ast) (beginnings a.path)
-    → items_of new.explainer ≡ items_of old.explainer ++ place_of_added a ∷ []
+    → items_of new.explainer ≡ items_of old.explainer ++ source_of_added a ∷ []
     → HoldsItems (added ++ a ∷ []) new
 grown added a n old new is holds joins nodes more = record {
-  tree = pairs_grown (pairs_of old.ast) (pairs_of new.ast) added a n (is ∙ ap length holds.explainer ∙ length-map added place_of_added) holds.tree joins;
+  tree = pairs_grown (pairs_of old.ast) (pairs_of new.ast) added a n (is ∙ ap length holds.explainer ∙ length-map added source_of_added) holds.tree joins;
   nodes = nodes_grown (nodes_of old.ast) (nodes_of new.ast) added a holds.nodes nodes;
-  explainer = more ∙ ap (λ l. l ++ place_of_added a ∷ []) holds.explainer ∙ sym (map-append place_of_added added (a ∷ []));
+  explainer = more ∙ ap (λ l. l ++ source_of_added a ∷ []) holds.explainer ∙ sym (map-append source_of_added added (a ∷ []));
 }
 
 -- how many items texts add

@@ -18,7 +18,7 @@ use Rattle.lol_vm.specs.Laws.{ids_of}
 use Rattle.lol_vm.specs.ReportLaws.{matching_ids-same}
 use Rattle.lol_reasons.specs.Witnesses.{innermost_witness}
 use Rattle.lol_reasons.specs.Explanations.{Text, Added, added_items, added_from, pairs_added, Reason, reason_by, reasons, reasons_at, explanations_from}
-use Rattle.lol_reasons.specs.ReasonLaws.{PairsAreAdded, ReasonsGiveReport, EachHasOneReason, ReasonsAreExact, IsReasonOf, ids_of_reasons, place_of_reason, place_of_added, RunsAreExplained, ReasonsStay, ids_reported}
+use Rattle.lol_reasons.specs.ReasonLaws.{PairsAreAdded, ReasonsGiveReport, EachHasOneReason, ReasonsAreExact, IsReasonOf, ids_of_reasons, source_of_reason, source_of_added, RunsAreExplained, ReasonsStay, ids_reported}
 use Rattle.lol_reasons.proofs.Witnesses.{innermost_where_matches}
 
 -- 1. Pairs
@@ -70,17 +70,17 @@ reasons_give_report s added same esi e outer =
 -- 3. One for each item
 
 module _ (e : Element) (outer : List Element) where
-  each_kept : (added : List Added) → map place_of_reason (reasons added e outer) ≡ map place_of_added (filter (λ (a : Added). matches a.path e outer) added)
+  each_kept : (added : List Added) → map source_of_reason (reasons added e outer) ≡ map source_of_added (filter (λ (a : Added). matches a.path e outer) added)
   each_kept [] = refl
   each_kept (a ∷ added) = by_test (innermost_witness a.path e outer) (matches a.path e outer) (innermost_where_matches a.path e outer) (each_kept added)
     where
       by_test : (o : Option (List ℕ)) (b : Bool) → is_some o ≡ b
-          → map place_of_reason (reasons added e outer) ≡ map place_of_added (filter (λ (a : Added). matches a.path e outer) added)
-          → map place_of_reason (cons_option (option_map (reason_by a) o) (reasons added e outer))
-          ≡ map place_of_added (cond b (a ∷ filter (λ (a : Added). matches a.path e outer) added) (filter (λ (a : Added). matches a.path e outer) added))
+          → map source_of_reason (reasons added e outer) ≡ map source_of_added (filter (λ (a : Added). matches a.path e outer) added)
+          → map source_of_reason (cons_option (option_map (reason_by a) o) (reasons added e outer))
+          ≡ map source_of_added (cond b (a ∷ filter (λ (a : Added). matches a.path e outer) added) (filter (λ (a : Added). matches a.path e outer) added))
       by_test None true h = cc
       by_test None false h = λ more. more
-      by_test (Some w) true h = λ more. ap (λ indexes. place_of_added a ∷ indexes) more
+      by_test (Some w) true h = λ more. ap (λ indexes. source_of_added a ∷ indexes) more
       by_test (Some w) false h = cc
 
 pub each_has_one_reason : EachHasOneReason

@@ -21,7 +21,7 @@ use Rattle.lol_reasons.specs.Matched.{IsAlone, IsAround}
 use Rattle.lol_reasons.specs.MachinesShow.{items_around}
 use Rattle.lol_reasons.specs.Numbered.{HasItemsOf, item_shown as text_item, numbered_from}
 use Rattle.lol_reasons.specs.Witnesses.{innermost_witness}
-use Rattle.lol_reasons.specs.ReasonLaws.{place_of_added}
+use Rattle.lol_reasons.specs.ReasonLaws.{source_of_added}
 use Rattle.lol_reasons.specs.declared.explainer.ItemOfText.{ItemOfText}
 use Rattle.lol_reasons.proofs.Climbing.{at_map, same_lengths}
 use Rattle.lol_reasons.proofs.Numbers.{matched_are_ids, matched_at, matched_from, each_told, numbered_at, at_numbered}
@@ -97,10 +97,10 @@ module _ (ts : List Text) (e : Element) (outer : List Element) where
   told_some ks i k told r within at is some = ap (λ l. l ++ r ∷ []) is ∙ sym (told_more ks i k within at ∙ ap (λ o. told_under (take i ks) ++ cons_option o []) some)
 
 -- an item that is known under a number tells what was added
-pub same_reason : (items : List ItemOfText) (added : List Added) (k : ℕ) (i : ItemOfText) (a : Added) (w : List ℕ) → map text_item items ≡ map place_of_added added
+pub same_reason : (items : List ItemOfText) (added : List Added) (k : ℕ) (i : ItemOfText) (a : Added) (w : List ℕ) → map text_item items ≡ map source_of_added added
     → slice_get items k ≡ Some i → slice_get added k ≡ Some a → reason_by a w ≡ record { id = i.id; text = i.text; item = i.item; witness = w }
 same_reason items added k i a w known i_at a_at =
-    let same : place_of_added a ≡ text_item i = some_is (sym (at_map place_of_added added k a a_at) ∙ sym (ap (λ l. slice_get l k) known) ∙ at_map text_item items k i i_at) in
+    let same : source_of_added a ≡ text_item i = some_is (sym (at_map source_of_added added k a a_at) ∙ sym (ap (λ l. slice_get l k) known) ∙ at_map text_item items k i i_at) in
     ap (λ (p : ℕ × ℕ × ℕ). record { id = p.0; text = p.1; item = p.2; witness = w }) same
 
 -- 3. The items around

@@ -10,7 +10,7 @@ use Rattle.lol_program.specs.Sets.{SameMembers}
 use Rattle.lol_vm.specs.Answers.{matching_ids}
 use Rattle.lol_reasons.specs.Explanations as texts
 use Rattle.lol_reasons.specs.Explanations.{Added, added_by, added_items, pairs_added}
-use Rattle.lol_reasons.specs.ReasonLaws.{place_of_added}
+use Rattle.lol_reasons.specs.ReasonLaws.{source_of_added}
 use Rattle.lol_reasons.specs.declared.explainer.Explainer.{Explainer}
 use Rattle.lol_reasons.specs.declared.explainer.ItemOfText.{ItemOfText}
 use Rattle.lol_reasons.specs.declared.explainer.Reason.{Reason}
@@ -57,13 +57,13 @@ HasItemsOf ts s = SameMembers s.pairs (numbered_from 0 (added_by ts))
 
 -- An explainer knows the items of texts.
 abbrev pub KnowsItemsOf : List texts.Text → Explainer → Type 0
-KnowsItemsOf ts explainer = items_of explainer ≡ map place_of_added (added_by ts)
+KnowsItemsOf ts explainer = items_of explainer ≡ map source_of_added (added_by ts)
 
 -- A tree has these items, each under its number, and no others, with their nodes, and an explainer knows them.
 pub record HoldsItems (added : List Added) (numbering : Numbering) : Type 0 where
   pub tree : SameMembers (pairs_of numbering.ast) (numbered_from 0 added)
   pub nodes : SameMembers (nodes_of numbering.ast) (all_beginnings (pairs_added added))
-  pub explainer : items_of numbering.explainer ≡ map place_of_added added
+  pub explainer : items_of numbering.explainer ≡ map source_of_added added
 
 -- what one text adds
 abbrev pub added_by_text : ℕ → texts.Text → List Added

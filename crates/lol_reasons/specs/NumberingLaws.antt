@@ -13,7 +13,7 @@ use Rattle.lol_vm.specs.Refusals.{Allowance, longest, refusal, refused}
 use Rattle.lol_vm.specs.Views.{selectors}
 use Rattle.lol_reasons.specs.Explanations.{Text, added_by, pairs_added}
 use Rattle.lol_reasons.specs.Numbered.{HasItemsOf, HoldsItems}
-use Rattle.lol_reasons.specs.ReasonLaws.{place_of_added}
+use Rattle.lol_reasons.specs.ReasonLaws.{source_of_added}
 use Rattle.lol_reasons.specs.declared.texts.Numbering.{Numbering}
 
 -- The same nodes, each once, in any order, spared by keys or not; the pairs may be others.
@@ -60,5 +60,5 @@ NumbersChangeNoNode =
 abbrev pub NumbersNameWhatMatches : Type 0
 NumbersNameWhatMatches =
     (texts : List Text) (s : Selectors) → HasItemsOf texts s → (e : Element) (outer : List Element)
-    → filter_map (slice_get (map place_of_added (added_by texts))) (matching_ids s.pairs e outer)
-    ≡ map place_of_added (filter (λ a. matches a.path e outer) (added_by texts))
+    → filter_map (slice_get (map source_of_added (added_by texts))) (matching_ids s.pairs e outer)
+    ≡ map source_of_added (filter (λ a. matches a.path e outer) (added_by texts))

@@ -27,17 +27,17 @@ ReasonsGiveReport =
     → ascending_once (ids_of_reasons (reasons added e outer)) ≡ ids_of (report s esi e outer)
 
 -- what a reason is for, and what was added, by id, text and item
-abbrev pub place_of_reason : Reason → ℕ × ℕ × ℕ
-place_of_reason r = (r.id, r.text, r.item)
+abbrev pub source_of_reason : Reason → ℕ × ℕ × ℕ
+source_of_reason r = (r.id, r.text, r.item)
 
-abbrev pub place_of_added : Added → ℕ × ℕ × ℕ
-place_of_added a = (a.id, a.text, a.item)
+abbrev pub source_of_added : Added → ℕ × ℕ × ℕ
+source_of_added a = (a.id, a.text, a.item)
 
 -- Each item that matches has one reason, and no other has any; they stand in the order of adding.
 abbrev pub EachHasOneReason : Type 0
 EachHasOneReason =
     (added : List Added) (e : Element) (outer : List Element)
-    → map place_of_reason (reasons added e outer) ≡ map place_of_added (filter (λ a. matches a.path e outer) added)
+    → map source_of_reason (reasons added e outer) ≡ map source_of_added (filter (λ a. matches a.path e outer) added)
 
 -- A reason is that of an item that was added, with its innermost witness.
 abbrev pub IsReasonOf : Element → List Element → Reason → Added → Type 0

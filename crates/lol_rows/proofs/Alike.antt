@@ -25,17 +25,17 @@ module _ (kind : RowKind) (instructions : List Instruction) where
   abbrev pub BesideAlike : List ℕ → Entry → Entry → Type 0
   BesideAlike shared one other = one.hash ≡ other.hash → Contains shared one.hash ⊎ AreAlikeAt kind instructions one.address other.address
 
-  -- those before a place
+  -- those before an index
   abbrev pub AreAlikeSoFar : List ℕ → List Entry → ℕ → Type 0
   AreAlikeSoFar shared entries n = (k : ℕ) (d : Entry) → k + 1 < n → k + 1 < length entries → BesideAlike shared (get_or entries k d) (get_or entries (k + 1) d)
 
   pub next_alike : (shared more : List ℕ) (entries : List Entry) (n : ℕ) (e : Entry) → 0 < n → n < length entries → AreAlikeSoFar shared entries n
       → ((x : ℕ) → Contains shared x → Contains more x) → BesideAlike more (get_or entries (n - 1) e) (get_or entries n e) → AreAlikeSoFar more entries (n + 1)
-  next_alike shared more entries n e some within before grows here k d low inside same = by_place (cases_lt (k + 1) n)
+  next_alike shared more entries n e some within before grows here k d low inside same = by_order (cases_lt (k + 1) n)
     where
-      by_place : (k + 1 < n) ⊎ (n ≤ k + 1) → Contains more (get_or entries k d).hash ⊎ AreAlikeAt kind instructions (get_or entries k d).address (get_or entries (k + 1) d).address
-      by_place (inl less) = elim (before k d less inside same) [ inl known ↦ inl (grows (get_or entries k d).hash known) | inr alike ↦ inr alike ]
-      by_place (inr most) =
+      by_order : (k + 1 < n) ⊎ (n ≤ k + 1) → Contains more (get_or entries k d).hash ⊎ AreAlikeAt kind instructions (get_or entries k d).address (get_or entries (k + 1) d).address
+      by_order (inl less) = elim (before k d less inside same) [ inl known ↦ inl (grows (get_or entries k d).hash known) | inr alike ↦ inr alike ]
+      by_order (inr most) =
           let at : n ≡ k + 1 = omega (arith, low, most) in
           let at_one : n - 1 ≡ k = omega (arith, at) in
           let one : get_or entries (n - 1) e ≡ get_or entries k d = ap (λ j. get_or entries j e) at_one ∙ get_or-any entries k e d (omega (arith, inside)) in

@@ -117,9 +117,9 @@ module _ (p : Instruction → Bool) (instructions : List Instruction) (hash_of :
       from : (n : ℕ) → Among (filter q each) n → Among kept n
       from n a =
           let parts = among_filter q each n a in
-          let place = among_range range.start (range.end - range.start) n parts.0 in
+          let bounds = among_range range.start (range.end - range.start) n parts.0 in
           let at = instruction_at p (slice_get instructions n) parts.1 in
-          let there = (are n).1 (record { hash = hash_of at.0; wanted = wanted n at.0 at.1 at.2; hashed = hashed_at hash_of instructions n at.0 at.1; low = place.0; high = omega (arith, place.0, place.1); passes = parts.1 }) in
+          let there = (are n).1 (record { hash = hash_of at.0; wanted = wanted n at.0 at.1 at.2; hashed = hashed_at hash_of instructions n at.0 at.1; low = bounds.0; high = omega (arith, bounds.0, bounds.1); passes = parts.1 }) in
           among_from_contains kept n ((same n).1 there)
 
 -- Sorted, and without those that stand twice, they have the same members.

@@ -27,11 +27,11 @@ among_range start (suc n) x (inr a) = let later = among_range (start + 1) n x a 
 
 pub range_among : (start n x : ℕ) → start ≤ x → x < start + n → Among (range_with_len start n) x
 range_among start zero x low high = absurd (omega (arith, low, high))
-range_among start (suc n) x low high = by_place (cases_lt start x) (λ above. range_among (start + 1) n x (omega (arith, above)) (omega (arith, high)))
+range_among start (suc n) x low high = by_order (cases_lt start x) (λ above. range_among (start + 1) n x (omega (arith, above)) (omega (arith, high)))
   where
-    by_place : (start < x) ⊎ (x ≤ start) → (start < x → Among (range_with_len (start + 1) n) x) → Among (range_with_len start (suc n)) x
-    by_place (inl above) later = inr (later above)
-    by_place (inr most) later = inl (omega (arith, low, most))
+    by_order : (start < x) ⊎ (x ≤ start) → (start < x → Among (range_with_len (start + 1) n) x) → Among (range_with_len start (suc n)) x
+    by_order (inl above) later = inr (later above)
+    by_order (inr most) later = inl (omega (arith, low, most))
 
 pub ascends_range : (start n : ℕ) → Ascends (range_with_len start n)
 ascends_range start zero = tt
@@ -65,28 +65,28 @@ module _ (name : List ℕ) (instructions : List Instruction) (range : Range ℕ)
       → false ≡ some_pass (is_left_open name) instructions range
   none_left a b is_a is_b none_a none_b = sym (not_true (some_pass (is_left_open name) instructions range) (λ some.
       let there = among_any (passes_at (is_left_open name) instructions) (addresses range) some in
-      let place = among_range range.start (range.end - range.start) there.0 there.1 in
+      let bounds = among_range range.start (range.end - range.start) there.0 there.1 in
       let at = instruction_at (is_left_open name) (slice_get instructions there.0) there.2 in
       let parts = and_parts (is_left_by_name name at.0) (keys_of at.0).opens at.2 in
-      let high : there.0 < range.end = omega (arith, place.0, place.1) in
+      let high : there.0 < range.end = omega (arith, bounds.0, bounds.1) in
       let fails : is_left_open name at.0 ≡ false =
       elim (hash_is name at.0 parts.0) [
-        | inl is ↦ none_a there.0 at.0 place.0 high at.1 (is ∙ ap (hash_of_name None) parts.1 ∙ sym is_a)
-        | inr is ↦ none_b there.0 at.0 place.0 high at.1 (is ∙ ap (hash_of_name (Some name)) parts.1 ∙ sym is_b)
+        | inl is ↦ none_a there.0 at.0 bounds.0 high at.1 (is ∙ ap (hash_of_name None) parts.1 ∙ sym is_a)
+        | inr is ↦ none_b there.0 at.0 bounds.0 high at.1 (is ∙ ap (hash_of_name (Some name)) parts.1 ∙ sym is_b)
       ] in
       true≢false (sym at.2 ∙ fails)))
 
-  -- no entry before a place passes
+  -- no entry before an index passes
   abbrev pub NoneSoFar : List Entry → ℕ → Type 0
   NoneSoFar entries n = (k : ℕ) (d : Entry) → k < n → k < length entries → passes_at (is_left_open name) instructions (get_or entries k d).address ≡ false
 
   pub one_less : (entries : List Entry) (n : ℕ) (d : Entry) → n < length entries → NoneSoFar entries n
       → passes_at (is_left_open name) instructions (get_or entries n d).address ≡ false → NoneSoFar entries (n + 1)
-  one_less entries n d within before fails k other low inside = by_place (cases_lt k n)
+  one_less entries n d within before fails k other low inside = by_order (cases_lt k n)
     where
-      by_place : (k < n) ⊎ (n ≤ k) → passes_at (is_left_open name) instructions (get_or entries k other).address ≡ false
-      by_place (inl less) = before k other less inside
-      by_place (inr most) =
+      by_order : (k < n) ⊎ (n ≤ k) → passes_at (is_left_open name) instructions (get_or entries k other).address ≡ false
+      by_order (inl less) = before k other less inside
+      by_order (inr most) =
           let here : n ≡ k = omega (arith, low, most) in
           ap (λ (e : Entry). passes_at (is_left_open name) instructions e.address) (ap (λ j. get_or entries j other) (sym here) ∙ get_or-any entries n other d within) ∙ fails
 
@@ -116,11 +116,11 @@ module _ (q : ℕ → Bool) (range : Range ℕ) where
   NoneBefore address = (k : ℕ) → range.start ≤ k → k < address → q k ≡ false
 
   pub none_next : (address : ℕ) → NoneBefore address → q address ≡ false → NoneBefore (address + 1)
-  none_next address before fails k low less = by_place (cases_lt k address)
+  none_next address before fails k low less = by_order (cases_lt k address)
     where
-      by_place : (k < address) ⊎ (address ≤ k) → q k ≡ false
-      by_place (inl early) = before k low early
-      by_place (inr late) = let here : k ≡ address = omega (arith, late, less) in ap q here ∙ fails
+      by_order : (k < address) ⊎ (address ≤ k) → q k ≡ false
+      by_order (inl early) = before k low early
+      by_order (inr late) = let here : k ≡ address = omega (arith, late, less) in ap q here ∙ fails
 
   pub some_at : (address : ℕ) → range.start ≤ address → address < range.end → q address ≡ true → true ≡ list_any q (addresses range)
   some_at address low high passes = sym (any_among q (addresses range) address (range_among range.start (range.end - range.start) address low (omega (arith, low, high))) passes)
@@ -128,17 +128,17 @@ module _ (q : ℕ → Bool) (range : Range ℕ) where
   pub none_at : (address : ℕ) → NoneBefore address → range.end ≤ address → false ≡ list_any q (addresses range)
   none_at address before most = sym (not_true (list_any q (addresses range)) (λ some.
       let there = among_any q (addresses range) some in
-      let place = among_range range.start (range.end - range.start) there.0 there.1 in
-      true≢false (sym there.2 ∙ before there.0 place.0 (omega (arith, place.0, place.1, most)))))
+      let bounds = among_range range.start (range.end - range.start) there.0 there.1 in
+      true≢false (sym there.2 ∙ before there.0 bounds.0 (omega (arith, bounds.0, bounds.1, most)))))
 
--- 6. Addresses of a range by their places
+-- 6. Addresses of a range by their indices
 
 pub range_at : (start n index : ℕ) → index < n → slice_get (range_with_len start n) index ≡ Some (start + index)
 range_at start zero index within = absurd (omega (arith, within))
 range_at start (suc n) zero within = let same : start ≡ start + 0 = omega arith in ap Some same
 range_at start (suc n) (suc k) within = let same : start + 1 + k ≡ start + suc k = omega arith in range_at (start + 1) n k (omega (arith, within)) ∙ ap Some same
 
--- 7. Adding what passes, place by place
+-- 7. Adding what passes, address by address
 
 module _ (q : ℕ → Bool) where
   -- one more

@@ -123,34 +123,34 @@ pub byte_more : (hasher : DefaultHasher) (bytes : List ℕ) (byte : ℕ) → fol
 byte_more hasher [] byte = refl
 byte_more hasher (first ∷ bytes) byte = byte_more (byte_hashed hasher first) bytes byte
 
--- 6. Attributes by their places
+-- 6. Attributes by their indices
 
 abbrev pub name_there : List Attribute → ℕ → Option (List ℕ)
-name_there attributes place = option_map (λ (a : Attribute). a.name) (slice_get attributes place)
+name_there attributes index = option_map (λ (a : Attribute). a.name) (slice_get attributes index)
 
-pub attribute_at : (attributes : List Attribute) (place : ℕ) (name : List ℕ) → name_there attributes place ≡ Some name → (a : Attribute) × (place < length attributes) × (a ≡ get_or attributes place a) × (a.name ≡ name)
-attribute_at [] place name h = cc
+pub attribute_at : (attributes : List Attribute) (index : ℕ) (name : List ℕ) → name_there attributes index ≡ Some name → (a : Attribute) × (index < length attributes) × (a ≡ get_or attributes index a) × (a.name ≡ name)
+attribute_at [] index name h = cc
 attribute_at (a ∷ more) zero name h = (a, omega arith, refl, some_is h)
 attribute_at (a ∷ more) (suc k) name h = let r = attribute_at more k name h in (r.0, omega (arith, r.1), r.2, r.3)
 
-pub none_there : (attributes : List Attribute) (place : ℕ) → name_there attributes place ≡ None → length attributes ≤ place
-none_there [] place h = omega arith
+pub none_there : (attributes : List Attribute) (index : ℕ) → name_there attributes index ≡ None → length attributes ≤ index
+none_there [] index h = omega arith
 none_there (a ∷ more) zero h = cc
 none_there (a ∷ more) (suc k) h = let r = none_there more k h in omega (arith, r)
 
 -- both hashes of a name are added
-pub name_added : (unnamed named : DefaultHasher) (attributes : List Attribute) (place : ℕ) (name : List ℕ) (one other : ℕ) (old before first second : List ℕ) → name_there attributes place ≡ Some name
-    → before ≡ old ++ flat_map (λ (a : Attribute). both_hashes unnamed named (Some (ByAttribute (lowercased a.name)))) (take place attributes)
+pub name_added : (unnamed named : DefaultHasher) (attributes : List Attribute) (index : ℕ) (name : List ℕ) (one other : ℕ) (old before first second : List ℕ) → name_there attributes index ≡ Some name
+    → before ≡ old ++ flat_map (λ (a : Attribute). both_hashes unnamed named (Some (ByAttribute (lowercased a.name)))) (take index attributes)
     → one ≡ hash_after unnamed (Some (ByAttribute (lowercased name))) → other ≡ hash_after named (Some (ByAttribute (lowercased name)))
     → first ≡ before ++ one ∷ [] → second ≡ first ++ other ∷ []
-    → second ≡ old ++ flat_map (λ (a : Attribute). both_hashes unnamed named (Some (ByAttribute (lowercased a.name)))) (take (place + 1) attributes)
-name_added unnamed named attributes place name one other old before first second there so is_one is_other one_more other_more =
-    let at = attribute_at attributes place name there in
+    → second ≡ old ++ flat_map (λ (a : Attribute). both_hashes unnamed named (Some (ByAttribute (lowercased a.name)))) (take (index + 1) attributes)
+name_added unnamed named attributes index name one other old before first second there so is_one is_other one_more other_more =
+    let at = attribute_at attributes index name there in
     let f : Attribute → List ℕ = λ a. both_hashes unnamed named (Some (ByAttribute (lowercased a.name))) in
     other_more ∙ ap (λ l. l ++ other ∷ []) one_more ∙ append_assoc before (one ∷ []) (other ∷ [])
     ∙ (λ i. before ++ is_one i ∷ is_other i ∷ [])
     ∙ ap (λ n. before ++ both_hashes unnamed named (Some (ByAttribute (lowercased n)))) (sym at.3)
-    ∙ flat_more f attributes place at.0 old before at.1 at.2 so
+    ∙ flat_more f attributes index at.0 old before at.1 at.2 so
 
 -- 7. All hashes of a tag, added part by part
 

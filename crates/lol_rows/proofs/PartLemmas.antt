@@ -263,10 +263,10 @@ both_kept table unnamed named old new a keeps holds = record {
   named_parts = parts_kept table named a.name (unwrap_or a.value []) old new keeps holds.named_parts;
 }
 
--- an attribute before the next place is one before this place, or the one of this name and value
-pub next_attribute : (attributes : List Attribute) (place : ℕ) (name value : List ℕ) → name_there attributes place ≡ Some name → option_map (λ (a : Attribute). unwrap_or a.value []) (slice_get attributes place) ≡ Some value
-    → (a : Attribute) → Contains (take (place + 1) attributes) a → Contains (take place attributes) a ⊎ ((a.name ≡ name) × (unwrap_or a.value [] ≡ value))
-next_attribute [] place name value named valued a has = cc
+-- an attribute before the next index is one before this index, or the one of this name and value
+pub next_attribute : (attributes : List Attribute) (index : ℕ) (name value : List ℕ) → name_there attributes index ≡ Some name → option_map (λ (a : Attribute). unwrap_or a.value []) (slice_get attributes index) ≡ Some value
+    → (a : Attribute) → Contains (take (index + 1) attributes) a → Contains (take index attributes) a ⊎ ((a.name ≡ name) × (unwrap_or a.value [] ≡ value))
+next_attribute [] index name value named valued a has = cc
 next_attribute (first ∷ more) zero name value named valued a has = by_head (among_from_contains (first ∷ []) a has)
   where
     by_head : Among (first ∷ []) a → Contains (take 0 (first ∷ more)) a ⊎ ((a.name ≡ name) × (unwrap_or a.value [] ≡ value))
@@ -288,11 +288,11 @@ next_attribute (first ∷ more) (suc k) name value named valued a has =
     by_head (inr rest) later = by_rest (later (contains_from_among (take (k + 1) more) a rest))
 
 -- where there is an attribute, its value is what is found
-pub value_is : (attributes : List Attribute) (place : ℕ) (name : List ℕ) (o : Option (Bor (List ℕ))) (d r : Bor (List ℕ)) → name_there attributes place ≡ Some name
-    → option_copied o ≡ option_map (λ (a : Attribute). unwrap_or a.value []) (slice_get attributes place) → r ≡ unwrap_or o d
-    → option_map (λ (a : Attribute). unwrap_or a.value []) (slice_get attributes place) ≡ Some r.now
-value_is attributes place name (Some value) d r named copied is = sym copied ∙ ap (λ (v : Bor (List ℕ)). Some v.now) (sym is)
-value_is attributes place name None d r named copied is = by_get (slice_get attributes place) named copied
+pub value_is : (attributes : List Attribute) (index : ℕ) (name : List ℕ) (o : Option (Bor (List ℕ))) (d r : Bor (List ℕ)) → name_there attributes index ≡ Some name
+    → option_copied o ≡ option_map (λ (a : Attribute). unwrap_or a.value []) (slice_get attributes index) → r ≡ unwrap_or o d
+    → option_map (λ (a : Attribute). unwrap_or a.value []) (slice_get attributes index) ≡ Some r.now
+value_is attributes index name (Some value) d r named copied is = sym copied ∙ ap (λ (v : Bor (List ℕ)). Some v.now) (sym is)
+value_is attributes index name None d r named copied is = by_get (slice_get attributes index) named copied
   where
     by_get : (found : Option Attribute) → option_map (λ (a : Attribute). a.name) found ≡ Some name → None ≡ option_map (λ (a : Attribute). unwrap_or a.value []) found
         → option_map (λ (a : Attribute). unwrap_or a.value []) found ≡ Some r.now

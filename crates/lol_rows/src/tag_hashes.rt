@@ -135,14 +135,14 @@ impl BothNames {
             ++ flat_map (λ a. both_hashes self.now.unnamed self.now.named (Some (ByAttribute (lowercased a.name))))
             matcher.now.attributes) }
     {
-        let mut place = 0;
-        while let Some(name) = matcher.name_at(place) {
+        let mut index = 0;
+        while let Some(name) = matcher.name_at(index) {
             hashes.push(attribute_hash(self.unnamed, name))?;
             hashes.push(attribute_hash(self.named, name))?;
-            let Some(next) = place.checked_add(1) else {
+            let Some(next) = index.checked_add(1) else {
                 return Err(AllocError);
             };
-            place = next;
+            index = next;
         }
         Ok(())
     }
@@ -157,15 +157,15 @@ impl BothNames {
         ensures parts { OnOk result ((a : Attribute) → Contains matcher.now.attributes a
             → HoldsBothParts parted.now self.now.unnamed self.now.named hashes.new.items a) }
     {
-        let mut place = 0;
-        while let Some(name) = matcher.name_at(place) {
-            let value = matcher.value_at(place).unwrap_or(&[]);
+        let mut index = 0;
+        while let Some(name) = matcher.name_at(index) {
+            let value = matcher.value_at(index).unwrap_or(&[]);
             add_parts_after(self.unnamed, parted, name, value, hashes)?;
             add_parts_after(self.named, parted, name, value, hashes)?;
-            let Some(next) = place.checked_add(1) else {
+            let Some(next) = index.checked_add(1) else {
                 return Err(AllocError);
             };
-            place = next;
+            index = next;
         }
         Ok(())
     }

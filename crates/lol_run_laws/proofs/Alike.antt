@@ -18,7 +18,7 @@ use Rattle.lol_vm.specs.KeyTries.{asks_at_once, is_left, is_left_open, node_keys
 use Rattle.lol_vm.specs.TriedLaws.{at_once_asks, tried_needs}
 use Rattle.lol_instructions.specs.Keys.{is_ruled_out_by_attributes, is_ruled_out_by_name}
 use Rattle.lol_base.specs.Ascending.{ascending_once}
-use Rattle.lol_vm.specs.Documents.{Document, element_of, parent_of, children_of, typed_children_of, place_of, inner_part, outer_part}
+use Rattle.lol_vm.specs.Documents.{Document, element_of, parent_of, children_of, typed_children_of, index_of, inner_part, outer_part}
 use Rattle.lol_vm.specs.Events.{Event, Start, End, has_content, has_content_in}
 use Rattle.lol_vm.specs.Matching.{matches, left_matches, parent_passes, some_ancestor_passes}
 use Rattle.lol_base.specs.CountLaws.{count_same}
@@ -90,8 +90,8 @@ module _ (s : Selectors) (closed : AreClosed s) where
   same_parents : {xs ys : List Element} → Alike xs ys → parent_of xs ≡ parent_of ys
   same_parents {xs} {ys} h = parent_is xs ∙ (ap (λ ns. slice_get ns 0) h.numbers ∙ sym (parent_is ys))
 
-  same_place : (name : List ℕ) {xs ys : List Element} → Alike xs ys → place_of name xs ≡ place_of name ys
-  same_place name {xs} {ys} h =
+  same_index : (name : List ℕ) {xs ys : List Element} → Alike xs ys → index_of name xs ≡ index_of name ys
+  same_index name {xs} {ys} h =
       sym (position-map (λ (n : List ℕ). same_name n name) (λ (e : Element). e.tag.name) xs)
       ∙ (ap (position (λ (n : List ℕ). same_name n name)) h.names
       ∙ position-map (λ (n : List ℕ). same_name n name) (λ (e : Element). e.tag.name) ys)
@@ -197,8 +197,8 @@ module _ (s : Selectors) (closed : AreClosed s) where
         (same_matches e h.open_elements) (same_tried e h.open_elements)
     same_answer d g (End name) h =
         ap (λ (ns : List ℕ). Ended (reverse ns))
-        (ap (λ o. map (λ (e : Element). e.number) (inner_part o d.open_elements)) (same_place name h.open_elements)
-        ∙ same_closed (place_of name g.open_elements) h.open_elements)
+        (ap (λ o. map (λ (e : Element). e.number) (inner_part o d.open_elements)) (same_index name h.open_elements)
+        ∙ same_closed (index_of name g.open_elements) h.open_elements)
 
     pub alike_opened : (x y : Element) (xs ys : List Element) → x.number ≡ y.number → x.tag.name ≡ y.tag.name → ((node : Path) → IsNode node → matches node x xs ≡ matches node y ys) → Alike xs ys
         → (a b : Bool) → a ≡ b → Alike (cond a (x ∷ xs) xs) (cond b (y ∷ ys) ys)
@@ -224,11 +224,11 @@ module _ (s : Selectors) (closed : AreClosed s) where
               _ _ (ap (λ b. has_content esi tag && not b) dropped);
         }
     alike_after d g (End name) h =
-        let place = place_of name g.open_elements in
+        let index = index_of name g.open_elements in
         record {
           events = ap (λ n. n + 1) h.events;
           children = h.children;
-          open_elements = subst (λ o. Alike (outer_part o d.open_elements) (outer_part place g.open_elements)) (sym (same_place name h.open_elements)) (alike_outer place h.open_elements);
+          open_elements = subst (λ o. Alike (outer_part o d.open_elements) (outer_part index g.open_elements)) (sym (same_index name h.open_elements)) (alike_outer index h.open_elements);
         }
       where
         alike_outer : (o : Option ℕ) {xs ys : List Element} → Alike xs ys → Alike (outer_part o xs) (outer_part o ys)

@@ -6,7 +6,7 @@ use Rattle.std.proofs.lemmas.Bool.Decides.{nat_tests}
 use Rattle.lol_base.specs.Names.{same_name}
 use Rattle.lol_instructions.specs.Tests.{Element}
 use Rattle.lol_base.specs.MemberLaws.{Among, contains_from_among}
-use Rattle.lol_vm.specs.Documents.{place_of, inner_part, outer_part}
+use Rattle.lol_vm.specs.Documents.{index_of, inner_part, outer_part}
 use Rattle.lol_vm.specs.Answers.{Ended}
 use Rattle.lol_run_laws.specs.RunLaws.{EndsCloseInside}
 
@@ -26,15 +26,15 @@ module _ {A : Type 0} (p : A → Bool) where
 pub ends_close_inside : EndsCloseInside
 ends_close_inside s esi d name inner e outer is named others =
     let numbers : List Element → List ℕ = map (λ (x : Element). x.number) in
-    let place : place_of name d.open_elements ≡ Some (length inner) =
-    ap (place_of name) is ∙ found_first (λ (x : Element). same_name x.tag.name name) inner e outer named (λ x a. others x (contains_from_among inner x a)) in
+    let index : index_of name d.open_elements ≡ Some (length inner) =
+    ap (index_of name) is ∙ found_first (λ (x : Element). same_name x.tag.name name) inner e outer named (λ x a. others x (contains_from_among inner x a)) in
     let split : d.open_elements ≡ (inner ++ e ∷ []) ++ outer = is ∙ sym (append_assoc inner (e ∷ []) outer) in
     let count : length (inner ++ e ∷ []) ≡ length inner + 1 = length-append inner (e ∷ []) in
-    let inside : inner_part (place_of name d.open_elements) d.open_elements ≡ inner ++ e ∷ [] =
-    (λ i. inner_part (place i) (split i)) ∙ take_at (inner ++ e ∷ []) outer (length inner + 1) count in
+    let inside : inner_part (index_of name d.open_elements) d.open_elements ≡ inner ++ e ∷ [] =
+    (λ i. inner_part (index i) (split i)) ∙ take_at (inner ++ e ∷ []) outer (length inner + 1) count in
     record {
       answered = ap (λ (xs : List Element). Ended (reverse (numbers xs))) inside
           ∙ ap Ended (ap reverse (map-append (λ (x : Element). x.number) inner (e ∷ [])) ∙ reverse-append (numbers inner) (e.number ∷ []));
-      around = (λ i. outer_part (place i) (split i)) ∙ drop_at (inner ++ e ∷ []) outer (length inner + 1) count;
+      around = (λ i. outer_part (index i) (split i)) ∙ drop_at (inner ++ e ∷ []) outer (length inner + 1) count;
       children = refl;
     }

@@ -25,26 +25,26 @@ turned : (b c : Bool) → b ≡ not c → c ≡ not b
 turned b true is = ap not (sym is)
 turned b false is = ap not (sym is)
 
-module _ (known next : BTreeSet (ℕ × ℕ)) (active : List (Range ℕ × ℕ)) (a : Range ℕ) (place : ℕ) (has : HasSpans known active) where
+module _ (known next : BTreeSet (ℕ × ℕ)) (active : List (Range ℕ × ℕ)) (a : Range ℕ) (depth : ℕ) (has : HasSpans known active) where
   abbrev more : List (Range ℕ × ℕ)
-  more = active ++ (a, place) ∷ []
+  more = active ++ (a, depth) ∷ []
 
   -- one more range
   pub spans_more : Updates span_cmp known next (a.start, a.end) true → HasSpans next more
   spans_more updates = λ r.
       updates.0 (r.start, r.end)
       ∙ ((λ i. cond (same_span a r i) true (has r i))
-      ∙ (joined (is_same_range a r) (is_range_active active r) ∙ sym (list_any-append (λ (x : Range ℕ × ℕ). is_same_range x.0 r) active ((a, place) ∷ []))))
+      ∙ (joined (is_same_range a r) (is_range_active active r) ∙ sym (list_any-append (λ (x : Range ℕ × ℕ). is_same_range x.0 r) active ((a, depth) ∷ []))))
 
   module _ (added : Bool) (told : added ≡ not (contains span_cmp known (a.start, a.end))) where
     known_is : is_range_active active a ≡ not added
     known_is = sym (has a) ∙ turned added (contains span_cmp known (a.start, a.end)) told
 
     -- it is active then, whether it was or not
-    pub activated_next : (ranges : List (Range ℕ)) → activated active place (a ∷ ranges) ≡ activated (if added then more else active) place ranges
-    activated_next ranges = ap (λ b. activated (if b then active else more) place ranges) known_is ∙ by_test added
+    pub activated_next : (ranges : List (Range ℕ)) → activated active depth (a ∷ ranges) ≡ activated (if added then more else active) depth ranges
+    activated_next ranges = ap (λ b. activated (if b then active else more) depth ranges) known_is ∙ by_test added
       where
-        by_test : (b : Bool) → activated (if not b then active else more) place ranges ≡ activated (if b then more else active) place ranges
+        by_test : (b : Bool) → activated (if not b then active else more) depth ranges ≡ activated (if b then more else active) depth ranges
         by_test true = refl
         by_test false = refl
 

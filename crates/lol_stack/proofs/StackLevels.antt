@@ -59,10 +59,10 @@ module _ {E : Type 0} where
       (stand_if-lower (length (items_in old)) (length (items_in old) + 1) (typed_in old) (omega arith) levels)
 
   pub closing_keeps_levels : ClosingKeepsLevels E
-  closing_keeps_levels place old new within levels closed =
-      has_levels new place (option_map (cut_to place) (typed_in old))
-      (ap (λ v. length v.items) closed.items ∙ length-take-le place (items_in old) within) closed.typed
-      (stand_if-cut (length (items_in old)) place (typed_in old) levels)
+  closing_keeps_levels depth old new within levels closed =
+      has_levels new depth (option_map (cut_to depth) (typed_in old))
+      (ap (λ v. length v.items) closed.items ∙ length-take-le depth (items_in old) within) closed.typed
+      (stand_if-cut (length (items_in old)) depth (typed_in old) levels)
 
   -- a child that is counted leaves as many elements, and the counters by type
   length-counted : (s : StackOf Name StackNames E) (found : Option (StackItemOf Name E)) → length (items_in (counted_if s found)) ≡ length (items_in s)

@@ -70,24 +70,24 @@ climb_counted top ts name c = by_test (is_at_level top (levels_of name ts))
     by_test true = subst (Climb top) (sym (same_levels ts name)) c
     by_test false = subst (Climb top) (sym (map-append (λ (t : TypedCount). t.level) ts (started top name ∷ []))) (climb_push top (levels_in ts) c)
 
-first_cut : (top place low : ℕ) (ts : List TypedCount) → low ≤ place → low ≤ first_or top (levels_in ts) → low ≤ first_or place (levels_in (cut_to place ts))
-first_cut top place low [] h first = h
-first_cut top place low (t ∷ ts) h first = by_test (all_above place (t ∷ ts))
+first_cut : (top depth low : ℕ) (ts : List TypedCount) → low ≤ depth → low ≤ first_or top (levels_in ts) → low ≤ first_or depth (levels_in (cut_to depth ts))
+first_cut top depth low [] h first = h
+first_cut top depth low (t ∷ ts) h first = by_test (all_above depth (t ∷ ts))
   where
-    by_test : (b : Bool) → low ≤ first_or place (levels_in (if b then [] else t ∷ cut_to place ts))
+    by_test : (b : Bool) → low ≤ first_or depth (levels_in (if b then [] else t ∷ cut_to depth ts))
     by_test true = h
     by_test false = first
 
-pub climb_cut : (top place : ℕ) (ts : List TypedCount) → Climb top (levels_in ts) → Climb place (levels_in (cut_to place ts))
-climb_cut top place [] c = tt
-climb_cut top place (t ∷ ts) c = by_test (all_above place (t ∷ ts)) refl (climb_cut top place ts c.1) (nat_lt place t.level) refl
+pub climb_cut : (top depth : ℕ) (ts : List TypedCount) → Climb top (levels_in ts) → Climb depth (levels_in (cut_to depth ts))
+climb_cut top depth [] c = tt
+climb_cut top depth (t ∷ ts) c = by_test (all_above depth (t ∷ ts)) refl (climb_cut top depth ts c.1) (nat_lt depth t.level) refl
   where
-    by_test : (b : Bool) → all_above place (t ∷ ts) ≡ b → Climb place (levels_in (cut_to place ts)) → (above : Bool) → nat_lt place t.level ≡ above → Climb place (levels_in (if b then [] else t ∷ cut_to place ts))
+    by_test : (b : Bool) → all_above depth (t ∷ ts) ≡ b → Climb depth (levels_in (cut_to depth ts)) → (above : Bool) → nat_lt depth t.level ≡ above → Climb depth (levels_in (if b then [] else t ∷ cut_to depth ts))
     by_test true is later above at = tt
-    by_test false is later true at = let all = climb_above top place t ts c ((Decides-ltb place t.level).0 at) in cc
+    by_test false is later true at = let all = climb_above top depth t ts c ((Decides-ltb depth t.level).0 at) in cc
     by_test false is later false at =
-        let within : t.level ≤ place = grind (arith, nat_tests) in
-        (first_cut top place t.level ts within c.0, later)
+        let within : t.level ≤ depth = grind (arith, nat_tests) in
+        (first_cut top depth t.level ts within c.0, later)
 
 -- 3. Levels of a name rise
 

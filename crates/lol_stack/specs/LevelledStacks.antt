@@ -27,8 +27,8 @@ OpeningKeepsLevels E =
 
 abbrev pub ClosingKeepsLevels : Type 0 → Type 0
 ClosingKeepsLevels E =
-    (place : ℕ) (old new : StackOf Name StackNames E) → place ≤ length (items_in old)
-    → HasLevels old → IsClosed place old new → HasLevels new
+    (depth : ℕ) (old new : StackOf Name StackNames E) → depth ≤ length (items_in old)
+    → HasLevels old → IsClosed depth old new → HasLevels new
 
 abbrev pub SameHasLevels : Type 0 → Type 0
 SameHasLevels E = (old new : StackOf Name StackNames E) → HasLevels old → IsSame old new → HasLevels new

@@ -10,8 +10,8 @@ pub mod CounterLists
 pub mod CounterMaps
 pub mod Active
 pub mod Spans
-pub mod Places
-pub mod OpenPlaces
+pub mod Depths
+pub mod OpenDepths
 pub mod StackLending
 pub mod Stacks
 pub mod Directives
@@ -22,6 +22,6 @@ pub mod TypedListLaws
 pub mod ClimbLaws
 pub mod TypedFunctions
 pub mod LevelledStacks
-pub mod SoundPlaceLaws
+pub mod SoundDepthLaws
 pub mod SoundRangeLaws
 pub mod SoundLaws

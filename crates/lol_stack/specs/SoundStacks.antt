@@ -5,7 +5,7 @@ use Rattle.std.specs.declared.ops.Range.{Range}
 use Rattle.lol_base.specs.LocalNames.{Name, same_local_name}
 use Rattle.lol_stack.specs.Active.{active_ranges_of}
 use Rattle.lol_stack.specs.StackLending.{with_current}
-use Rattle.lol_stack.specs.Stacks.{items_in, active_in, places_in, counted_in, place_to_close, IsSame, IsPushed, IsClosed}
+use Rattle.lol_stack.specs.Stacks.{items_in, active_in, depths_in, counted_in, depth_to_close, IsSame, IsPushed, IsClosed}
 use Rattle.lol_stack.specs.declared.stack_item.StackItemOf.{StackItemOf}
 use Rattle.lol_stack.specs.declared.stack.StackOf.{StackOf}
 use Rattle.lol_stack.specs.declared.stack.StackNames.{StackNames}
@@ -15,31 +15,31 @@ module _ {E : Type 0} where
   abbrev pub hereditary_jumps_in : List (StackItemOf Name E) → List (List (Range ℕ))
   hereditary_jumps_in items = map (λ item. item.hereditary_jumps) items
 
-  -- the places of the elements of a name, where the first element stands at this place
-  abbrev pub name_places_from : ℕ → List (StackItemOf Name E) → Name → List ℕ
-  name_places_from place [] name = []
-  name_places_from place (item ∷ items) name =
-      if same_local_name item.local_name name then place ∷ name_places_from (place + 1) items name else name_places_from (place + 1) items name
+  -- the depths of the elements of a name, where the first element stands at this depth
+  abbrev pub name_depths_from : ℕ → List (StackItemOf Name E) → Name → List ℕ
+  name_depths_from depth [] name = []
+  name_depths_from depth (item ∷ items) name =
+      if same_local_name item.local_name name then depth ∷ name_depths_from (depth + 1) items name else name_depths_from (depth + 1) items name
 
-  -- the last of these places
-  abbrev pub last_place_from : ℕ → List (StackItemOf Name E) → Name → Option ℕ
-  last_place_from place [] name = None
-  last_place_from place (item ∷ items) name =
-      option_or (last_place_from (place + 1) items name) (if same_local_name item.local_name name then Some place else None)
+  -- the last of these depths
+  abbrev pub last_depth_from : ℕ → List (StackItemOf Name E) → Name → Option ℕ
+  last_depth_from depth [] name = None
+  last_depth_from depth (item ∷ items) name =
+      option_or (last_depth_from (depth + 1) items name) (if same_local_name item.local_name name then Some depth else None)
 
-  -- The place of the last open element of a name.
-  abbrev pub last_place : List (StackItemOf Name E) → Name → Option ℕ
-  last_place items name = last_place_from 0 items name
+  -- The depth of the last open element of a name.
+  abbrev pub last_depth : List (StackItemOf Name E) → Name → Option ℕ
+  last_depth items name = last_depth_from 0 items name
 
-  -- The active ranges are those of the open elements, and the places of each name are theirs.
+  -- The active ranges are those of the open elements, and the depths of each name are theirs.
   pub record IsSound (s : StackOf Name StackNames E) : Type 0 where
     pub active : active_in s ≡ active_ranges_of (hereditary_jumps_in (items_in s))
-    pub places : (name : Name) → places_in s name ≡ name_places_from 0 (items_in s) name
+    pub depths : (name : Name) → depths_in s name ≡ name_depths_from 0 (items_in s) name
 
 -- What is so of a new stack, and what each call keeps.
 
 abbrev pub NewIsSound : Type 0 → Type 0
-NewIsSound E = (s : StackOf Name StackNames E) → items_in s ≡ [] → active_in s ≡ [] → ((name : Name) → places_in s name ≡ []) → IsSound s
+NewIsSound E = (s : StackOf Name StackNames E) → items_in s ≡ [] → active_in s ≡ [] → ((name : Name) → depths_in s name ≡ []) → IsSound s
 
 abbrev pub CountingKeepsSound : Type 0 → Type 0
 CountingKeepsSound E = (s : StackOf Name StackNames E) (name : Name) → IsSound s → IsSound (counted_in s name)
@@ -48,7 +48,7 @@ abbrev pub OpeningKeepsSound : Type 0 → Type 0
 OpeningKeepsSound E = (old new : StackOf Name StackNames E) (item : StackItemOf Name E) → IsSound old → IsPushed old item new → IsSound new
 
 abbrev pub ClosingKeepsSound : Type 0 → Type 0
-ClosingKeepsSound E = (place : ℕ) (old new : StackOf Name StackNames E) → place ≤ length (items_in old) → IsSound old → IsClosed place old new → IsSound new
+ClosingKeepsSound E = (depth : ℕ) (old new : StackOf Name StackNames E) → depth ≤ length (items_in old) → IsSound old → IsClosed depth old new → IsSound new
 
 abbrev pub SameIsSound : Type 0 → Type 0
 SameIsSound E = (old new : StackOf Name StackNames E) → IsSound old → IsSame old new → IsSound new
@@ -59,4 +59,4 @@ DataKeepSound E = (s : StackOf Name StackNames E) (w : E) → IsSound s → IsSo
 
 -- An end tag closes the last open element of its name.
 abbrev pub EndsAtLast : Type 0 → Type 0
-EndsAtLast E = (s : StackOf Name StackNames E) (name : Name) → IsSound s → place_to_close s name ≡ last_place (items_in s) name
+EndsAtLast E = (s : StackOf Name StackNames E) (name : Name) → IsSound s → depth_to_close s name ≡ last_depth (items_in s) name

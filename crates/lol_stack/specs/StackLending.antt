@@ -9,12 +9,12 @@ use Rattle.lol_stack.specs.contracts.stack.StackOf.{the_row as stack_row}
 
 module _ {N E : Type 0} where
   abbrev pub with_data_if : List (StackItemOf N E) → ℕ → E → Option (StackItemOf N E) → List (StackItemOf N E)
-  with_data_if items place w None = items
-  with_data_if items place w (Some item) = slice_set items place (with_data item w)
+  with_data_if items depth w None = items
+  with_data_if items depth w (Some item) = slice_set items depth (with_data item w)
 
-  -- the elements, with other data at one place
+  -- the elements, with other data at one depth
   abbrev pub with_data_at : List (StackItemOf N E) → ℕ → E → List (StackItemOf N E)
-  with_data_at items place w = with_data_if items place w (slice_get items place)
+  with_data_at items depth w = with_data_if items depth w (slice_get items depth)
 
   -- the stack, with other data of its last element
   abbrev pub with_current : {M : Type 0} → StackOf N M E → E → StackOf N M E

@@ -7,7 +7,7 @@ use Rattle.lol_memory.specs.LimitedVec.{LimitedVec, pushed, with_items}
 use Rattle.lol_stack.specs.Active.{activated}
 use Rattle.lol_stack.specs.Levels.{without_last}
 use Rattle.lol_stack.specs.TypedCounts.{TypedCount, counted_by_type, cut_to, count_at}
-use Rattle.lol_stack.specs.OpenPlaces.{places_of}
+use Rattle.lol_stack.specs.OpenDepths.{depths_of}
 use Rattle.lol_stack.specs.declared.stack_item.StackItemOf.{StackItemOf}
 use Rattle.lol_stack.specs.declared.stack.StackOf.{StackOf}
 use Rattle.lol_stack.specs.declared.stack.StackNames.{StackNames}
@@ -50,7 +50,7 @@ module _ {N M E : Type 0} where
   abbrev pub KeepsSlots : StackOf N M E → StackOf N M E → Type 0
   KeepsSlots old new = (slots_in new ≡ slots_in old) × (item_bytes_in new ≡ item_bytes_in old)
 
-  -- the active hereditary ranges, each with the place of the first element that has it
+  -- the active hereditary ranges, each with the depth of the first element that has it
   abbrev pub active_in : StackOf N M E → List (Range ℕ × ℕ)
   active_in s = s.active_hereditary_jumps
 
@@ -71,9 +71,9 @@ module _ {E : Type 0} where
   abbrev pub typed_in : StackOf Name StackNames E → Option (List TypedCount)
   typed_in s = s.names.typed_child_counters
 
-  -- the places of the open elements of a name
-  abbrev pub places_in : StackOf Name StackNames E → Name → List ℕ
-  places_in s name = places_of s.names.open_names name
+  -- the depths of the open elements of a name
+  abbrev pub depths_in : StackOf Name StackNames E → Name → List ℕ
+  depths_in s name = depths_of s.names.open_names name
 
   -- the stack with other counters by type
   abbrev pub with_typed : StackOf Name StackNames E → Option (List TypedCount) → StackOf Name StackNames E
@@ -106,7 +106,7 @@ pub record IsSame {E : Type 0} (old new : StackOf Name StackNames E) : Type 0 wh
   pub items : list_in new ≡ list_in old
   pub active : active_in new ≡ active_in old
   pub typed : typed_in new ≡ typed_in old
-  pub places : (q : Name) → places_in new q ≡ places_in old q
+  pub depths : (q : Name) → depths_in new q ≡ depths_in old q
 
 -- An element is opened: it stands last, with its ranges and its name.
 pub record IsPushed {E : Type 0} (old : StackOf Name StackNames E) (item : StackItemOf Name E) (new : StackOf Name StackNames E) : Type 0 where
@@ -114,41 +114,41 @@ pub record IsPushed {E : Type 0} (old : StackOf Name StackNames E) (item : Stack
   pub items : list_in new ≡ pushed (list_in old) item
   pub active : active_in new ≡ activated (active_in old) (length (items_in old)) item.hereditary_jumps
   pub typed : typed_in new ≡ typed_in old
-  pub places :
-      (q : Name) → places_in new q ≡ (if same_local_name item.local_name q then places_in old q ++ length (items_in old) ∷ [] else places_in old q)
+  pub depths :
+      (q : Name) → depths_in new q ≡ (if same_local_name item.local_name q then depths_in old q ++ length (items_in old) ∷ [] else depths_in old q)
 
--- the places of a name without those of elements, the outermost first: each takes one off the end
-abbrev pub without_places : {E : Type 0} → List (StackItemOf Name E) → Name → List ℕ → List ℕ
-without_places [] q places = places
-without_places (item ∷ items) q places = without_places items q (if same_local_name item.local_name q then without_last places else places)
+-- the depths of a name without those of elements, the outermost first: each takes one off the end
+abbrev pub without_depths : {E : Type 0} → List (StackItemOf Name E) → Name → List ℕ → List ℕ
+without_depths [] q depths = depths
+without_depths (item ∷ items) q depths = without_depths items q (if same_local_name item.local_name q then without_last depths else depths)
 
--- The elements from a place on are closed: their ranges, counters by type and places go.
-pub record IsClosed {E : Type 0} (place : ℕ) (old new : StackOf Name StackNames E) : Type 0 where
+-- The elements from a depth on are closed: their ranges, counters by type and depths go.
+pub record IsClosed {E : Type 0} (depth : ℕ) (old new : StackOf Name StackNames E) : Type 0 where
   pub root : root_count new ≡ root_count old
-  pub items : list_in new ≡ with_items (list_in old) (take place (items_in old))
-  pub active : active_in new ≡ filter (λ a. nat_lt a.1 place) (active_in old)
-  pub typed : typed_in new ≡ option_map (cut_to place) (typed_in old)
-  pub places : (q : Name) → places_in new q ≡ without_places (drop place (items_in old)) q (places_in old q)
+  pub items : list_in new ≡ with_items (list_in old) (take depth (items_in old))
+  pub active : active_in new ≡ filter (λ a. nat_lt a.1 depth) (active_in old)
+  pub typed : typed_in new ≡ option_map (cut_to depth) (typed_in old)
+  pub depths : (q : Name) → depths_in new q ≡ without_depths (drop depth (items_in old)) q (depths_in old q)
 
--- the last of some places, if it is one of so many elements
+-- the last of some depths, if it is one of so many elements
 abbrev pub last_below : ℕ → List ℕ → Option ℕ
 last_below n [] = None
-last_below n (place ∷ []) = if nat_lt place n then Some place else None
-last_below n (place ∷ next ∷ places) = last_below n (next ∷ places)
+last_below n (depth ∷ []) = if nat_lt depth n then Some depth else None
+last_below n (depth ∷ next ∷ depths) = last_below n (next ∷ depths)
 
--- the place of the last open element of a name
-abbrev pub place_to_close : {E : Type 0} → StackOf Name StackNames E → Name → Option ℕ
-place_to_close s name = last_below (length (items_in s)) (places_in s name)
+-- the depth of the last open element of a name
+abbrev pub depth_to_close : {E : Type 0} → StackOf Name StackNames E → Name → Option ℕ
+depth_to_close s name = last_below (length (items_in s)) (depths_in s name)
 
--- the elements from a place on, none without a place
+-- the elements from a depth on, none without a depth
 abbrev pub closed_from : {E : Type 0} → Option ℕ → List (StackItemOf Name E) → List (StackItemOf Name E)
 closed_from None items = []
-closed_from (Some place) items = drop place items
+closed_from (Some depth) items = drop depth items
 
 abbrev pub IsEndedAt : {E : Type 0} → Option ℕ → StackOf Name StackNames E → StackOf Name StackNames E → Type 0
 IsEndedAt None old new = IsSame old new
-IsEndedAt (Some place) old new = IsClosed place old new
+IsEndedAt (Some depth) old new = IsClosed depth old new
 
 -- An end tag closes the last open element of its name and all inside it; where none is open, nothing changes.
 abbrev pub IsEnded : {E : Type 0} → StackOf Name StackNames E → Name → StackOf Name StackNames E → Type 0
-IsEnded old name new = IsEndedAt (place_to_close old name) old new
+IsEnded old name new = IsEndedAt (depth_to_close old name) old new

@@ -12,7 +12,7 @@ use std::marker::Model;
 /// The ranges of an element that has no more of them are looked up one by one; for more a set is made, which so few wouldn't repay.
 const FEW: usize = 128;
 
-/// The distinct hereditary ranges of the open elements, in the order in which they first came, each with the place of the first element
+/// The distinct hereditary ranges of the open elements, in the order in which they first came, each with the depth of the first element
 /// that has it.
 #[derive(Drop)]
 pub(crate) struct ActiveRanges {
@@ -51,24 +51,24 @@ impl ActiveRanges {
         self.ranges.len()
     }
 
-    /// Adds those of an element's ranges that aren't there yet, with its place: all of them, or refused none. It walks the active ranges
+    /// Adds those of an element's ranges that aren't there yet, with its depth: all of them, or refused none. It walks the active ranges
     /// once for each range; of an element with many it puts all into a set, which is dropped again.
     pub(crate) fn activate(
         &mut self,
         ranges: &[AddressRange],
-        place: usize,
+        depth: usize,
     ) -> Result<(), AllocError>
-        ensures ok { OnOk result (self.new ≡ activated self.old place ranges.now) }
+        ensures ok { OnOk result (self.new ≡ activated self.old depth ranges.now) }
         ensures err { OnErr result (self.new ≡ self.old) }
     {
         self.ranges.reserve(ranges.len())?;
         if ranges.len() <= FEW {
-            add_missing(&mut self.ranges, ranges, place);
+            add_missing(&mut self.ranges, ranges, depth);
             return Ok(());
         }
         let mut known = spans_of(self.alloc, &self.ranges)?;
         let len = self.ranges.len();
-        let added = add_unknown(&mut self.ranges, &mut known, ranges, place);
+        let added = add_unknown(&mut self.ranges, &mut known, ranges, depth);
         if added.is_err() {
             self.ranges.truncate(len);
         }
@@ -82,21 +82,21 @@ impl ActiveRanges {
         self.ranges.truncate(len);
     }
 
-    /// Drops the ranges of the elements from `place` on.
-    pub(crate) fn cut(&mut self, place: usize)
-        ensures { self.new ≡ filter (λ a. nat_lt a.1 place) self.old }
+    /// Drops the ranges of the elements from `depth` on.
+    pub(crate) fn cut(&mut self, depth: usize)
+        ensures { self.new ≡ filter (λ a. nat_lt a.1 depth) self.old }
     {
-        self.ranges.retain(move |active| active.1 < place);
+        self.ranges.retain(move |active| active.1 < depth);
     }
 }
 
-fn add_missing(active: &mut Vec<(AddressRange, usize)>, ranges: &[AddressRange], place: usize)
+fn add_missing(active: &mut Vec<(AddressRange, usize)>, ranges: &[AddressRange], depth: usize)
     requires { vec_len active.old + length ranges.now ≤ vec_capacity active.old }
-    ensures { active.new.items ≡ activated active.old.items place ranges.now }
+    ensures { active.new.items ≡ activated active.old.items depth ranges.now }
 {
     for range in ranges {
         if !contains(active, range) {
-            active.push_reserved((range.start..range.end, place));
+            active.push_reserved((range.start..range.end, depth));
         }
     }
 }
@@ -126,17 +126,17 @@ fn add_unknown(
     active: &mut Vec<(AddressRange, usize)>,
     known: &mut BTreeSet<(usize, usize)>,
     ranges: &[AddressRange],
-    place: usize,
+    depth: usize,
 ) -> Result<(), AllocError>
     requires room { vec_len active.old + length ranges.now ≤ vec_capacity active.old }
     requires spans { HasSpans known.old active.old.items }
-    ensures ok { OnOk result (active.new.items ≡ activated active.old.items place ranges.now) }
+    ensures ok { OnOk result (active.new.items ≡ activated active.old.items depth ranges.now) }
     ensures kept { take (length active.old.items) active.new.items ≡ active.old.items }
 {
     for range in ranges {
         let span = (range.start, range.end);
         if known.insert(span)? {
-            active.push_reserved((span.0..span.1, place));
+            active.push_reserved((span.0..span.1, depth));
         }
     }
     Ok(())

@@ -11,8 +11,8 @@ ghost use Rattle.lol_instructions.specs.Counters.{full_count};
 ghost use Rattle.lol_stack.specs.Calls.{IsCalledAtEach};
 ghost use Rattle.lol_stack.specs.StackLending.{lends_current};
 ghost use Rattle.lol_stack.specs.Directives.{directive_in};
-ghost use Rattle.lol_stack.specs.OpenPlaces.{places_of};
-ghost use Rattle.lol_stack.specs.Stacks.{items_in, list_in, slots_in, item_bytes_in, root_count, active_in, last_count, child_counted, typed_in, places_in, typed_count, counted_in, counted_if_kept, element_data_of, closed_from, place_to_close, IsSame, IsPushed, IsEnded, KeepsSlots, without_places};
+ghost use Rattle.lol_stack.specs.OpenDepths.{depths_of};
+ghost use Rattle.lol_stack.specs.Stacks.{items_in, list_in, slots_in, item_bytes_in, root_count, active_in, last_count, child_counted, typed_in, depths_in, typed_count, counted_in, counted_if_kept, element_data_of, closed_from, depth_to_close, IsSame, IsPushed, IsEnded, KeepsSlots, without_depths};
 
 use crate::active_ranges::ActiveRanges;
 use crate::counters::TypedChildCounterMap;
@@ -78,7 +78,7 @@ impl<N, M, E> StackOf<N, M, E> {
         self.items.as_slice()
     }
 
-    /// The distinct hereditary ranges of the open elements, in the order in which they first came, each with the place of the first
+    /// The distinct hereditary ranges of the open elements, in the order in which they first came, each with the depth of the first
     /// element that has it.
     pub fn active_hereditary_jumps(&self) -> &[(AddressRange, usize)]
         ensures { result.now ≡ active_in self.now }
@@ -130,7 +130,7 @@ impl<E> StackOf<LocalName<'static>, StackNames, E> {
         ensures root { root_count result ≡ 0 }
         ensures active { active_in result ≡ [] }
         ensures typed { typed_in result ≡ (if enable_nth_of_type then Some [] else None) }
-        ensures places { (q : Name) → places_in result q ≡ [] }
+        ensures depths { (q : Name) → depths_in result q ≡ [] }
     {
         StackOf {
             root_child_counter: ChildCounter::default(),
@@ -197,17 +197,17 @@ impl<E> StackOf<LocalName<'static>, StackNames, E> {
         if self.items.is_limited(limiter) {
             return Err(PushError::Limit(MemoryLimitExceededError));
         }
-        let place = self.items.len();
+        let depth = self.items.len();
         let active = self.active_hereditary_jumps.len();
         let name = match item.local_name.try_clone(self.names.alloc) {
             Ok(name) => name,
             Err(error) => return Err(PushError::Memory(error)),
         };
         let ranges = item.hereditary_jumps.as_slice();
-        if let Err(error) = self.active_hereditary_jumps.activate(ranges, place) {
+        if let Err(error) = self.active_hereditary_jumps.activate(ranges, depth) {
             return Err(PushError::Memory(error));
         }
-        if let Err(error) = self.names.open_names.add(&name, place) {
+        if let Err(error) = self.names.open_names.add(&name, depth) {
             self.active_hereditary_jumps.truncate(active);
             return Err(PushError::Memory(error));
         }
@@ -219,16 +219,16 @@ impl<E> StackOf<LocalName<'static>, StackNames, E> {
         Ok(())
     }
 
-    /// The last open element of a name: where its name stands among the open names, and its place.
+    /// The last open element of a name: where its name stands among the open names, and its depth.
     fn element_to_close(&self, name: &LocalName<'_>) -> Option<(NamePlace, usize)>
-        ensures value { option_map (λ found. found.1) result ≡ place_to_close self.now name.now }
+        ensures value { option_map (λ found. found.1) result ≡ depth_to_close self.now name.now }
         ensures stands { IfSome result (λ found. StandsInMap self.now.names.open_names.map name.now found.0) }
         ensures within { IfSome result (λ found. found.1 < length (items_in self.now)) }
     {
         let at = self.names.open_names.find(name)?;
-        let (place, _) = self.names.open_names.places_at(at).split_last()?;
-        if *place < self.items.len() {
-            Some((at, *place))
+        let (depth, _) = self.names.open_names.depths_at(at).split_last()?;
+        if *depth < self.items.len() {
+            Some((at, *depth))
         } else {
             None
         }
@@ -244,15 +244,15 @@ impl<E> StackOf<LocalName<'static>, StackNames, E> {
         ensures ended { IsEnded self.old local_name.entry self.new }
         ensures slots { KeepsSlots self.old self.new }
         ensures called { IsCalledAtEach F.step handler.old
-            (element_data_of (closed_from (place_to_close self.old local_name.entry) (items_in self.old))) handler.new }
+            (element_data_of (closed_from (depth_to_close self.old local_name.entry) (items_in self.old))) handler.new }
     {
-        let Some((at, place)) = self.element_to_close(&local_name) else {
+        let Some((at, depth)) = self.element_to_close(&local_name) else {
             return;
         };
-        let closed = &self.items.as_slice()[place..];
-        self.names.close(closed, place, &local_name, at);
-        self.active_hereditary_jumps.cut(place);
-        hand_out(&mut self.items, place, handler);
+        let closed = &self.items.as_slice()[depth..];
+        self.names.close(closed, depth, &local_name, at);
+        self.active_hereditary_jumps.cut(depth);
+        hand_out(&mut self.items, depth, handler);
     }
 
     /// Drops the elements. The usage of the limiter stays as it is: for a limiter that ends with the stack. (Not in lol_html.)
@@ -299,11 +299,11 @@ impl<E> StackOf<LocalName<'static>, StackNames, E> {
         directive_of(&item.local_name, ns, enable_esi_tags)
     }
 
-    /// The places of the open elements of a name, ascending, from 0. It takes no memory. (Not in lol_html.)
+    /// The depths of the open elements of a name, ascending, from 0. It takes no memory. (Not in lol_html.)
     pub fn open_places<'s, 'i: 's>(&'s self, name: &LocalName<'i>) -> &'s [usize]
-        ensures { result.now ≡ places_in self.now name.now }
+        ensures { result.now ≡ depths_in self.now name.now }
     {
-        self.names.open_names.places(name)
+        self.names.open_names.depths(name)
     }
 }
 
@@ -311,12 +311,12 @@ impl StackNames {
     ghost use Rattle.std.specs.Prelude.{OnOk};
     ghost use Rattle.lol_stack.specs.TypedCounts.{cut_to};
     ghost use Rattle.lol_stack.specs.Stacks.{count_by_type};
-    ghost use Rattle.lol_stack.specs.OpenPlaces.{places_of};
+    ghost use Rattle.lol_stack.specs.OpenDepths.{depths_of};
     ghost use Rattle.lol_name_map.specs.NameMaps.{StandsInMap};
 
     fn new(alloc: Global, enable_nth_of_type: bool) -> Self
         ensures typed { result.typed_child_counters ≡ (if enable_nth_of_type then Some [] else None) }
-        ensures places { (q : Name) → places_of result.open_names q ≡ [] }
+        ensures depths { (q : Name) → depths_of result.open_names q ≡ [] }
     {
         let typed_child_counters = if enable_nth_of_type {
             Some(TypedChildCounterMap::new(alloc))
@@ -343,22 +343,22 @@ impl StackNames {
         }
     }
 
-    /// Takes the places of closed elements off, and drops the counters by type of the levels above `place`. The name that closed them
+    /// Takes the depths of closed elements off, and drops the counters by type of the levels above `depth`. The name that closed them
     /// stands at `at`; it is the outermost one's, which so needs no look-up.
     fn close<E>(
         &mut self,
         closed: &[StackItem<'static, E>],
-        place: usize,
+        depth: usize,
         name: &LocalName<'_>,
         at: NamePlace,
     )
         requires { StandsInMap self.old.open_names.map name.now at }
-        ensures typed { self.new.typed_child_counters ≡ option_map (cut_to place) self.old.typed_child_counters }
-        ensures places { (q : Name) → places_of self.new.open_names q
-            ≡ without_places closed.now q (places_of self.old.open_names q) }
+        ensures typed { self.new.typed_child_counters ≡ option_map (cut_to depth) self.old.typed_child_counters }
+        ensures depths { (q : Name) → depths_of self.new.open_names q
+            ≡ without_depths closed.now q (depths_of self.old.open_names q) }
     {
         if let Some(counters) = &mut self.typed_child_counters {
-            counters.pop_to(place);
+            counters.pop_to(depth);
         }
         let Some((outermost, inside)) = closed.split_first() else {
             return;
@@ -383,29 +383,29 @@ impl StackNames {
     }
 }
 
-/// Takes the last place of each element's name off, in the order of the elements.
+/// Takes the last depth of each element's name off, in the order of the elements.
 fn remove_names<E>(open_names: &mut OpenNames, closed: &[StackItem<'static, E>])
-    ensures { (q : Name) → places_of open_names.new q ≡ without_places closed.now q (places_of open_names.old q) }
+    ensures { (q : Name) → depths_of open_names.new q ≡ without_depths closed.now q (depths_of open_names.old q) }
 {
     for item in closed {
         open_names.remove(&item.local_name);
     }
 }
 
-/// Takes the elements from a place on out, and calls the handler with their data, in order.
+/// Takes the elements from a depth on out, and calls the handler with their data, in order.
 fn hand_out<N: Drop, E: Drop, F: FnMut(E)>(
     items: &mut LimitedVec<StackItemOf<N, E>>,
-    place: usize,
+    depth: usize,
     handler: &mut F,
 )
     requires callable { F.IsAlwaysCallable handler.old }
-    requires inside { place ≤ length items.old.items }
+    requires inside { depth ≤ length items.old.items }
     ensures again { F.IsAlwaysCallable handler.new }
-    ensures kept { items.new ≡ with_items items.old (take place items.old.items) }
-    ensures called { IsCalledAtEach F.step handler.old (element_data_of (drop place items.old.items)) handler.new }
+    ensures kept { items.new ≡ with_items items.old (take depth items.old.items) }
+    ensures called { IsCalledAtEach F.step handler.old (element_data_of (drop depth items.old.items)) handler.new }
 {
     let end = items.len();
-    for item in items.drain(place..end) {
+    for item in items.drain(depth..end) {
         let StackItemOf { element_data, .. } = item;
         handler(element_data);
     }

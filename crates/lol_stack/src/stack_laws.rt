@@ -4,7 +4,7 @@ ghost use Rattle.lol_stack.specs.TypedLaws.{CountingAddsOne, CountsAtTheirLevel,
 ghost use Rattle.lol_stack.specs.LevelledStacks.{NewHasLevels, CountingKeepsLevels, OpeningKeepsLevels, ClosingKeepsLevels, SameHasLevels};
 ghost use Rattle.lol_stack.specs.SoundStacks.{NewIsSound, CountingKeepsSound, OpeningKeepsSound, ClosingKeepsSound, SameIsSound, DataKeepSound, EndsAtLast};
 
-/// The active ranges of a stack are those of its open elements, and the places of each name are theirs. So it is of a new stack, and
+/// The active ranges of a stack are those of its open elements, and the depths of each name are theirs. So it is of a new stack, and
 /// counting a child, opening an element, closing elements, refused calls and other data of the last element keep it so.
 pub fn stacks_keep_their_lists<E>()
     ensures new { NewIsSound E }

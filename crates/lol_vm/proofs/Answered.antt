@@ -1,5 +1,5 @@
 -- What a start tag is answered, by what is run for it.
-use Rattle.lol_vm.proofs.Common.{◌≡◌, ℕ, true, List, ◌↔◌, Contains, Range, Element, is_html, Selectors, Path, ascending_once, matching_ids, asks, ascending_is_determined, ascending_ascends, pairs_from_ascends, matching_ids_ascend, among_ascending, ascending_among, all_places, AreClosed, IsProgramOf, HoldOnce, context_of, among_from_contains, contains_from_among, starts_open, ◌∙◌}
+use Rattle.lol_vm.proofs.Common.{◌≡◌, ℕ, true, List, ◌↔◌, Contains, Range, Element, is_html, Selectors, Path, ascending_once, matching_ids, asks, ascending_is_determined, ascending_ascends, pairs_from_ascends, matching_ids_ascend, among_ascending, ascending_among, all_addresses, AreClosed, IsProgramOf, HoldOnce, context_of, among_from_contains, contains_from_among, starts_open, ◌∙◌}
 use Rattle.lol_program.specs.Programs.{Program}
 use Rattle.lol_vm.proofs.Counted.{Tried}
 use Rattle.lol_vm.specs.TriedLaws.{NotAtOnce, asks_tried}
@@ -18,11 +18,11 @@ in_order ids s e outer same =
 -- what it asks of a tag of HTML that isn't asked for at once, and reports, is what the definition says
 pub record AnswersStart (s : Selectors) (p : Program) (ranges : List (Range ℕ)) (e : Element) (outer : List Element) : Type 0 where
   pub asked : is_html e.tag.namespace ≡ true → NotAtOnce s e outer → starts_open p e (left_by_names p e ranges) ≡ asks s e outer
-  pub matched : ascending_once (context_of p true e (all_places ranges)).ids ≡ matching_ids s.pairs e outer
+  pub matched : ascending_once (context_of p true e (all_addresses ranges)).ids ≡ matching_ids s.pairs e outer
 
 pub starts_answer : (s : Selectors) (paths : List Path) (p : Program) (ranges : List (Range ℕ)) (e : Element) (outer : List Element) → AreClosed s → IsProgramOf s paths p → HoldOnce paths ranges (Tried s e outer)
     → AnswersStart s p ranges e outer
 starts_answer s paths p ranges e outer closed program held = record {
   asked = λ html later. (stopped_starts_are_whole s paths p ranges e outer true closed program held).asks ∙ asks_tried s e outer html later;
-  matched = in_order (context_of p true e (all_places ranges)).ids s e outer (runs_give_reports s paths p ranges e outer closed program held).ids;
+  matched = in_order (context_of p true e (all_addresses ranges)).ids s e outer (runs_give_reports s paths p ranges e outer closed program held).ids;
 }

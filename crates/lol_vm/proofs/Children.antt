@@ -1,5 +1,5 @@
 -- Documents as tags come, and the children that were counted.
-use Rattle.lol_vm.proofs.Common.{◌≡◌, ℕ, zero, suc, ◌+◌, ◌<◌, ◌≤◌, Bool, true, false, cond, List, [], ◌∷◌, length, map, drop, Option, Some, None, refl, sym, ap, ◌∙◌, subst, arith, ◌&&◌, not, ◌==◌, Decides-eqb, same_name, lowercased, StartTag, Element, Selectors, count_by-cons, Event, Start, End, has_content, Document, empty, element_of, parent_of, same_parent, children_of, typed_children_of, place_of, outer_part, after_start, after_end, document_from, after, is_dropped, longest_from, not_true, AreTyped, Descend, IsOrdered, DocumentsAreOrdered}
+use Rattle.lol_vm.proofs.Common.{◌≡◌, ℕ, zero, suc, ◌+◌, ◌<◌, ◌≤◌, Bool, true, false, cond, List, [], ◌∷◌, length, map, drop, Option, Some, None, refl, sym, ap, ◌∙◌, subst, arith, ◌&&◌, not, ◌==◌, Decides-eqb, same_name, lowercased, StartTag, Element, Selectors, count_by-cons, Event, Start, End, has_content, Document, empty, element_of, parent_of, same_parent, children_of, typed_children_of, index_of, outer_part, after_start, after_end, document_from, after, is_dropped, longest_from, not_true, AreTyped, Descend, IsOrdered, DocumentsAreOrdered}
 use Rattle.std.proofs.lemmas.Slice.Eq.{bytes_eq-Decides}
 use Rattle.lol_stack.specs.TypedCounts.{TypedCount}
 use Rattle.lol_stack.specs.TypedLaws.{Climb, levels_in, typed_of}
@@ -61,10 +61,10 @@ descend_drop zero bound outer d = d
 descend_drop (suc n) bound [] d = tt
 descend_drop (suc n) bound (e ∷ outer) d = let below = d.0 in descend_drop n bound outer (descend_lower e.number bound outer (omega (arith, below)) d.1)
 
--- how many elements an end tag closes, by the place of the innermost of its name
+-- how many elements an end tag closes, by the index of the innermost of its name
 abbrev pub closed_count : Option ℕ → ℕ
 closed_count None = 0
-closed_count (Some place) = place + 1
+closed_count (Some index) = index + 1
 
 pub outer_is : (o : Option ℕ) (xs : List Element) → outer_part o xs ≡ drop (closed_count o) xs
 outer_is None xs = refl
@@ -86,10 +86,10 @@ ordered_start d most tag opens h = record {
 
 pub ordered_end : (d : Document) (most : ℕ) (name : List ℕ) → IsOrdered d most → IsOrdered (after_end d name) (length (after_end d name).open_elements)
 ordered_end d most name h =
-    let place = place_of name d.open_elements in
+    let index = index_of name d.open_elements in
     record {
-      numbers = descend_lower d.events (d.events + 1) (outer_part place d.open_elements) (omega arith)
-          (subst (Descend d.events) (sym (outer_is place d.open_elements)) (descend_drop (closed_count place) d.events d.open_elements h.numbers));
+      numbers = descend_lower d.events (d.events + 1) (outer_part index d.open_elements) (omega arith)
+          (subst (Descend d.events) (sym (outer_is index d.open_elements)) (descend_drop (closed_count index) d.events d.open_elements h.numbers));
       fresh = λ n above. h.fresh n (omega (arith, above));
       enough = omega arith;
     }

@@ -20,14 +20,14 @@ pub use Rattle.lol_memory.specs.Ids.{AllSmall, Ids, ascending, has, union}
 pub use Rattle.lol_memory.specs.LimitedVec.{IsLimited, LimitedVec, grown_slots}
 pub use Rattle.lol_memory.specs.Limiter.{Limiter, charged}
 pub use Rattle.lol_program.specs.Paths.{First, Path, Selectors, Then, beginnings, last_compound}
-pub use Rattle.lol_program.specs.Programs.{AreClosed, HoldsPlaces, IsAt, IsProgramOf, IsRangeOf, IsWithin, above, all_places, places}
-pub use Rattle.lol_stack.specs.Stacks.{IsClosed, IsEnded, IsEndedAt, IsPushed, IsSame, active_in, closed_from, count_by_type, count_or, counted_if, counted_in, counted_item, element_data_of, item_bytes_in, items_in, last_below, last_count, list_in, place_to_close, places_in, root_count, slots_in, typed_count, typed_in, with_typed}
+pub use Rattle.lol_program.specs.Programs.{AreClosed, HoldsAddresses, IsAt, IsProgramOf, IsRangeOf, IsWithin, above, all_addresses, addresses}
+pub use Rattle.lol_stack.specs.Stacks.{IsClosed, IsEnded, IsEndedAt, IsPushed, IsSame, active_in, closed_from, count_by_type, count_or, counted_if, counted_in, counted_item, element_data_of, item_bytes_in, items_in, last_below, last_count, list_in, depth_to_close, depths_in, root_count, slots_in, typed_count, typed_in, with_typed}
 pub use Rattle.lol_stack.specs.declared.execution_ctx.ExecutionCtx.{ExecutionCtx}
 pub use Rattle.lol_stack.specs.declared.stack.StackNames.{StackNames}
 pub use Rattle.lol_stack.specs.declared.stack.StackOf.{StackOf}
 pub use Rattle.lol_stack.specs.declared.stack_item.StackItemOf.{StackItemOf}
 pub use Rattle.lol_vm.specs.Answers.{Answer, Dropped, Ended, Match, Started, after, answer, answers, answers_from, asks, attribute_tries, document, document_from, is_dropped, is_tried, is_tried_open, matching_ids, name_tries, needs_attributes, report}
-pub use Rattle.lol_vm.specs.Documents.{Document, after_end, after_start, children_of, closed, element_of, empty, inner_part, outer_part, parent_of, place_of, same_parent, typed_children_of}
+pub use Rattle.lol_vm.specs.Documents.{Document, after_end, after_start, children_of, closed, element_of, empty, inner_part, outer_part, parent_of, index_of, same_parent, typed_children_of}
 pub use Rattle.lol_vm.specs.EventRuns.{Goes, GoesByStart, IsRunOf, answer_with, machine_of}
 pub use Rattle.lol_vm.specs.Events.{End, Event, Start, has_content, has_content_in}
 pub use Rattle.lol_vm.specs.Follows.{Follows, IsCharged, IsDropped, IsHandedOver, IsRefusedFor, IsRunWithoutMemory, HasOutcome, StartedElement, Stops, opens, refusal_after}
@@ -36,10 +36,10 @@ pub use Rattle.lol_vm.specs.MachineLaws.{IsRequest, ProgramsHaveEachNode, Ranges
 pub use Rattle.lol_vm.specs.Machines.{AreItems, HasRanges, HoldOnce, IsItem, IsReached, LeftMatches, Matches, OpenItem, active_of, children_shown, hereditary_jumps_of, item_shown, items_shown, jumps_of, last_jumps, ranges_of_active, ranges_to_run}
 pub use Rattle.lol_vm.specs.Matching.{left_matches, matches, parent_passes, some_ancestor_passes}
 pub use Rattle.lol_vm.specs.Outcomes.{give_if, given_by_names, given_with_attributes, is_true}
-pub use Rattle.lol_vm.specs.PlaceRuns.{Context, Gathers, at_places, branch, context_of, gathered_from_places, give_if_there, given_by, hereditary_jumps_list, ids_list, instruction_holds, instruction_value, is_open_at, jumps_list, no_context, run, value_at}
+pub use Rattle.lol_vm.specs.AddressRuns.{Context, Gathers, at_addresses, branch, context_of, gathered_from_addresses, give_if_there, given_by, hereditary_jumps_list, ids_list, instruction_holds, instruction_value, is_open_at, jumps_list, no_context, run, value_at}
 pub use Rattle.lol_vm.specs.Refusals.{Allowance, Cause, Counter, Limit, exceeds, greatest_count, longest, longest_from, or_later, refusal, refused, refused_from}
 pub use Rattle.lol_vm.specs.ReportLaws.{among_matching_ids, every_report, matching_ids_among, matching_ids_ascend}
-pub use Rattle.lol_vm.specs.Standing.{AreTyped, AreTypedIf, CountersArePlaces, Descend, DocumentsAreOrdered, HasCounted, IsOrdered, StandsFor, StandsOn, unfinished}
+pub use Rattle.lol_vm.specs.Standing.{AreTyped, AreTypedIf, CountersArePositions, Descend, DocumentsAreOrdered, HasCounted, IsOrdered, StandsFor, StandsOn, unfinished}
 pub use Rattle.lol_vm.specs.TagRuns.{AreExecuted, AreTried, AreWithin, IsPointIn, IsStopIn, jumps_in, jumps_of_item, number_of, ranges_from, ranges_left, all_ranges, left_ranges, ranges_to_run_in, rest_of, sight_in, tag_ranges, tried_at}
 pub use Rattle.lol_vm.specs.Views.{answer_of, event_of, match_of, selectors, tag_of}
 pub use Rattle.lol_vm.specs.Vms.{AreOpened, ChargesSlots, GoesOnAt, HasOpen, IsAnswered, IsChargedFor, IsCovered, IsEntered, IsPending, IsRefusal, IsReported, IsRequested, IsRestOf, IsSilent, IsTagOf, IsTriedAtMost, OpensNothing, Stands, StaysFailed, Vm, content_in, content_of, data_in, has_failed, info_of, instructions_in, is_asked_for, open_after, ranges_to_try, slot_bytes, slots_charged, stack_in, tries_in}

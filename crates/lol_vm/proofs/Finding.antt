@@ -1,5 +1,5 @@
 -- What rows find of ranges, one range after the other.
-use Rattle.lol_vm.proofs.Common.{◌≡◌, ℕ, suc, ◌+◌, ◌-◌, ◌<◌, ◌≤◌, Bool, false, ◌||◌, list_any, List, [], ◌∷◌, ◌++◌, length, take, drop, get_or, drop-cons, sym, ap, ◌∙◌, arith, Range, append-nil, take-append-drop, take_all, places, all_places}
+use Rattle.lol_vm.proofs.Common.{◌≡◌, ℕ, suc, ◌+◌, ◌-◌, ◌<◌, ◌≤◌, Bool, false, ◌||◌, list_any, List, [], ◌∷◌, ◌++◌, length, take, drop, get_or, drop-cons, sym, ap, ◌∙◌, arith, Range, append-nil, take-append-drop, take_all, addresses, all_addresses}
 use Rattle.std.proofs.lemmas.List.{length-append, take_more}
 use Rattle.std.proofs.lemmas.Grind.{flat_map-append}
 use Rattle.std.proofs.lemmas.List.FromFn.{length-range_with_len}
@@ -39,12 +39,12 @@ module _ (p : Instruction → Bool) (instructions : List Instruction) (ranges : 
         ∙ (flat_map-append (passing p instructions) (take i ranges) (r ∷ []) ∙ ap (λ xs. all_passing p instructions (take i ranges) ++ xs) (append-nil (passing p instructions r)))
 
     -- there is room for the rest of what is found
-    pub found_room : length (all_passing p instructions (take i ranges)) + (r.end - r.start) ≤ length (all_places ranges)
+    pub found_room : length (all_passing p instructions (take i ranges)) + (r.end - r.start) ≤ length (all_addresses ranges)
     found_room =
         let front = passing_few p instructions (take i ranges) in
         let here = length-range_with_len r.start (r.end - r.start) in
-        let all = ap (λ rs. length (all_places rs)) parts ∙ ap length (flat_map-append places (take i ranges) (r ∷ drop (suc i) ranges)) ∙ length-append (all_places (take i ranges)) (all_places (r ∷ drop (suc i) ranges)) in
-        let back = length-append (places r) (all_places (drop (suc i) ranges)) in
+        let all = ap (λ rs. length (all_addresses rs)) parts ∙ ap length (flat_map-append addresses (take i ranges) (r ∷ drop (suc i) ranges)) ∙ length-append (all_addresses (take i ranges)) (all_addresses (r ∷ drop (suc i) ranges)) in
+        let back = length-append (addresses r) (all_addresses (drop (suc i) ranges)) in
         omega (arith, front, here, all, back)
 
     -- where none of the ranges before has one that passes, nor has this one

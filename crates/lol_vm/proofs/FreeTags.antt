@@ -70,7 +70,7 @@ module _ (s : Selectors) (paths : List Path) (prog : Program) (small : AreSmall 
     abbrev instruction : programs.Instruction
     instruction = shown (get_or all k d)
 
-    -- the path whose place it has, and what it means
+    -- the path whose address it has, and what it means
     path_at : (path : Path) × (slice_get paths k ≡ Some path)
     path_at =
         let count = program.count in

@@ -1,10 +1,10 @@
--- What running places gives.
-use Rattle.lol_vm.proofs.Common.{◌≡◌, ℕ, Bool, true, false, cond, List, [], Option, Some, None, ◌↔◌, inl, inr, refl, sym, ap, ◌∙◌, subst, arith, Contains, slice_get, option_to_list, Range, Element, all_hold, Path, Selectors, last_compound, Among, Distinct, among_from_contains, contains_from_among, distinct_from_pairs, left_matches, matches, matching_ids, among_matching_ids, matching_ids_among, and_parts, and_of, IsAt, IsRangeOf, IsProgramOf, AreClosed, all_places, HasRanges, Matches, HoldOnce, jumps_of, hereditary_jumps_of, given_by, gathered_from_places, ids_list, context_of, Context, is_tried}
+-- What running addresses gives.
+use Rattle.lol_vm.proofs.Common.{◌≡◌, ℕ, Bool, true, false, cond, List, [], Option, Some, None, ◌↔◌, inl, inr, refl, sym, ap, ◌∙◌, subst, arith, Contains, slice_get, option_to_list, Range, Element, all_hold, Path, Selectors, last_compound, Among, Distinct, among_from_contains, contains_from_among, distinct_from_pairs, left_matches, matches, matching_ids, among_matching_ids, matching_ids_among, and_parts, and_of, IsAt, IsRangeOf, IsProgramOf, AreClosed, all_addresses, HasRanges, Matches, HoldOnce, jumps_of, hereditary_jumps_of, given_by, gathered_from_addresses, ids_list, context_of, Context, is_tried}
 use Rattle.lol_base.specs.MemberLaws.{among_flat_map, flat_map_among, distinct_flat_map}
 use Rattle.lol_css.specs.declared.selector.Combinator.{Combinator}
 use Rattle.lol_css.specs.declared.selector.Combinator.TheVariants.{Child, Descendant}
 use Rattle.lol_program.specs.Programs.{Instruction, Program}
-use Rattle.lol_vm.proofs.Held.{instruction_at, place_of_node, range_of_reached, one_owner}
+use Rattle.lol_vm.proofs.Held.{instruction_at, address_of_node, range_of_reached, one_owner}
 use Rattle.lol_vm.proofs.Counted.{Tried, path_held, held_at}
 use Rattle.lol_vm.specs.TriedLaws.{matching_tried, tried_left}
 use Rattle.lol_program.specs.NodeOnceLaws.{AllPairs-from_Distinct}
@@ -39,31 +39,31 @@ one_option true (Some x) = (λ h. h, tt)
 one_option false o = tt
 
 module _ (s : Selectors) (paths : List Path) (p : Program) (closed : AreClosed s) (program : IsProgramOf s paths p) (ranges : List (Range ℕ)) (outer : List Element) (e : Element) (held : HoldOnce paths ranges (Tried s e outer)) where
-  -- an instruction at a place that is run holds exactly if its path matches
-  holds_matches : (place : ℕ) (path : Path) (i : Instruction) → IsAt paths place path → IsAt p.instructions place i → Tried s e outer path → i.holds e ≡ true → matches path e outer ≡ true
-  holds_matches place path i at at' tried holds = and_of _ _ (sym ((program.each place path i at at').means e).1 ∙ holds) (tried_left s e outer path tried)
+  -- an instruction at an address that is run holds exactly if its path matches
+  holds_matches : (address : ℕ) (path : Path) (i : Instruction) → IsAt paths address path → IsAt p.instructions address i → Tried s e outer path → i.holds e ≡ true → matches path e outer ≡ true
+  holds_matches address path i at at' tried holds = and_of _ _ (sym ((program.each address path i at at').means e).1 ∙ holds) (tried_left s e outer path tried)
 
-  matches_holds : (place : ℕ) (path : Path) (i : Instruction) → IsAt paths place path → IsAt p.instructions place i → matches path e outer ≡ true → (i.holds e ≡ true) × Tried s e outer path
-  matches_holds place path i at at' fits =
+  matches_holds : (address : ℕ) (path : Path) (i : Instruction) → IsAt paths address path → IsAt p.instructions address i → matches path e outer ≡ true → (i.holds e ≡ true) × Tried s e outer path
+  matches_holds address path i at at' fits =
       let both = and_parts (all_hold (last_compound path) e) (left_matches path outer) fits in
-      (((program.each place path i at at').means e).1 ∙ both.0, matching_tried s e outer path fits)
+      (((program.each address path i at at').means e).1 ∙ both.0, matching_tried s e outer path fits)
 
   module _ {A : Type 0} (what : Instruction → List A) where
-    gathered_from : (y : A) → Among (gathered_from_places what p e (all_places ranges)) y → (place : ℕ) × (path : Path) × (i : Instruction) × IsAt paths place path × IsAt p.instructions place i × (matches path e outer ≡ true) × Among (what i) y
+    gathered_from : (y : A) → Among (gathered_from_addresses what p e (all_addresses ranges)) y → (address : ℕ) × (path : Path) × (i : Instruction) × IsAt paths address path × IsAt p.instructions address i × (matches path e outer ≡ true) × Among (what i) y
     gathered_from y h =
-        let at = among_flat_map (λ place. given_by what e (slice_get p.instructions place)) (all_places ranges) y h in
+        let at = among_flat_map (λ address. given_by what e (slice_get p.instructions address)) (all_addresses ranges) y h in
         let x = path_held s paths p closed program ranges (is_tried s e outer) held at.0 at.1 in
         let i = of_given what e (slice_get p.instructions at.0) y at.2 in
         (at.0, x.0, i.0, x.1, i.1, holds_matches at.0 x.0 i.0 x.1 i.1 x.2 i.2, i.3)
 
-    gathered_at : (y : A) (place : ℕ) (path : Path) (i : Instruction) → IsAt paths place path → IsAt p.instructions place i → matches path e outer ≡ true → Among (what i) y → Among (gathered_from_places what p e (all_places ranges)) y
-    gathered_at y place path i at at' fits a =
-        let both = matches_holds place path i at at' fits in
-        flat_map_among (λ place. given_by what e (slice_get p.instructions place)) (all_places ranges) place y
-        (held_at s paths p closed program ranges (is_tried s e outer) held place path at both.1)
-        (to_given what e (slice_get p.instructions place) i y at' both.0 a)
+    gathered_at : (y : A) (address : ℕ) (path : Path) (i : Instruction) → IsAt paths address path → IsAt p.instructions address i → matches path e outer ≡ true → Among (what i) y → Among (gathered_from_addresses what p e (all_addresses ranges)) y
+    gathered_at y address path i at at' fits a =
+        let both = matches_holds address path i at at' fits in
+        flat_map_among (λ address. given_by what e (slice_get p.instructions address)) (all_addresses ranges) address y
+        (held_at s paths p closed program ranges (is_tried s e outer) held address path at both.1)
+        (to_given what e (slice_get p.instructions address) i y at' both.0 a)
 
-  ids_reported : (id : ℕ) → Contains (gathered_from_places ids_list p e (all_places ranges)) id ↔ Contains (matching_ids s.pairs e outer) id
+  ids_reported : (id : ℕ) → Contains (gathered_from_addresses ids_list p e (all_addresses ranges)) id ↔ Contains (matching_ids s.pairs e outer) id
   ids_reported id = (
     λ c.
         let h = gathered_from ids_list id (among_from_contains _ id c) in
@@ -71,13 +71,13 @@ module _ (s : Selectors) (paths : List Path) (p : Program) (closed : AreClosed s
     λ c.
         let m = among_matching_ids e outer s.pairs id (among_from_contains _ id c) in
         let pair = contains_from_among s.pairs (m.0, id) m.1 in
-        let place = place_of_node s paths p program m.0 (closed.paths m.0 id pair) in
-        let i = instruction_at s paths p program place.0 m.0 place.1 in
-        contains_from_among _ id (gathered_at ids_list id place.0 m.0 i.0 place.1 i.1 m.2 (among_from_contains i.0.ids id (((program.each place.0 m.0 i.0 place.1 i.1).ids id).1 pair))),
+        let address = address_of_node s paths p program m.0 (closed.paths m.0 id pair) in
+        let i = instruction_at s paths p program address.0 m.0 address.1 in
+        contains_from_among _ id (gathered_at ids_list id address.0 m.0 i.0 address.1 i.1 m.2 (among_from_contains i.0.ids id (((program.each address.0 m.0 i.0 address.1 i.1).ids id).1 pair))),
   )
 
   module _ (which : Instruction → Option (Range ℕ)) (step : Combinator)
-      (has : (place : ℕ) (path : Path) (i : Instruction) → IsAt paths place path → IsAt p.instructions place i → IsRangeOf paths (which i) (Some (path, step))) where
+      (has : (address : ℕ) (path : Path) (i : Instruction) → IsAt paths address path → IsAt p.instructions address i → IsRangeOf paths (which i) (Some (path, step))) where
     abbrev list_of : Instruction → List (Range ℕ)
     list_of i = option_to_list (which i)
 
@@ -85,8 +85,8 @@ module _ (s : Selectors) (paths : List Path) (p : Program) (closed : AreClosed s
     one_each None = tt
     one_each (Some i) = one_option (i.holds e) (which i)
 
-    one_place_each : (j k : ℕ) (r : Range ℕ) → Among (all_places ranges) j → Among (all_places ranges) k → Among (given_by list_of e (slice_get p.instructions j)) r → Among (given_by list_of e (slice_get p.instructions k)) r → j ≡ k
-    one_place_each j k r a b in_j in_k =
+    one_address_each : (j k : ℕ) (r : Range ℕ) → Among (all_addresses ranges) j → Among (all_addresses ranges) k → Among (given_by list_of e (slice_get p.instructions j)) r → Among (given_by list_of e (slice_get p.instructions k)) r → j ≡ k
+    one_address_each j k r a b in_j in_k =
         let x = path_held s paths p closed program ranges (is_tried s e outer) held j a in
         let y = path_held s paths p closed program ranges (is_tried s e outer) held k b in
         let i = of_given list_of e (slice_get p.instructions j) r in_j in
@@ -96,10 +96,10 @@ module _ (s : Selectors) (paths : List Path) (p : Program) (closed : AreClosed s
         let some = (range_of_reached s paths p program closed which step has j x.0 i.0 r x.1 i.1 is).1 in
         one_owner s paths p program closed which step has j k x.0 y.0 i.0 i'.0 r r r.start x.1 y.1 i.1 i'.1 is is' (omega arith, some) (omega arith, some)
 
-    ranges_had : HasRanges which paths p (Matches e outer) (gathered_from_places list_of p e (all_places ranges))
+    ranges_had : HasRanges which paths p (Matches e outer) (gathered_from_addresses list_of p e (all_addresses ranges))
     ranges_had = record {
-      once = AllPairs-from_Distinct _ (distinct_flat_map (λ place. given_by list_of e (slice_get p.instructions place)) (all_places ranges) (distinct_from_pairs (all_places ranges) held.once)
-          (λ place a. one_each (slice_get p.instructions place)) one_place_each);
+      once = AllPairs-from_Distinct _ (distinct_flat_map (λ address. given_by list_of e (slice_get p.instructions address)) (all_addresses ranges) (distinct_from_pairs (all_addresses ranges) held.once)
+          (λ address a. one_each (slice_get p.instructions address)) one_address_each);
       members = λ r. (
         λ c. let h = gathered_from list_of r (among_from_contains _ r c) in (h.0, h.1, h.2, h.3, h.4, of_option (which h.2) r h.6, h.5),
         λ h. contains_from_among _ r (gathered_at list_of r h.0 h.1 h.2 h.3 h.4 h.6 (to_option (which h.2) r h.5)),
@@ -114,9 +114,9 @@ pub record GivesReport (s : Selectors) (paths : List Path) (p : Program) (contex
 
 pub runs_give_reports : (s : Selectors) (paths : List Path) (p : Program) (ranges : List (Range ℕ)) (e : Element) (outer : List Element)
     → AreClosed s → IsProgramOf s paths p → HoldOnce paths ranges (Tried s e outer)
-    → GivesReport s paths p (context_of p true e (all_places ranges)) e outer
+    → GivesReport s paths p (context_of p true e (all_addresses ranges)) e outer
 runs_give_reports s paths p ranges e outer closed program held = record {
   ids = ids_reported s paths p closed program ranges outer e held;
-  jumps = ranges_had s paths p closed program ranges outer e held jumps_of Child (λ place path i at at'. (program.each place path i at at').jumps);
-  hereditary_jumps = ranges_had s paths p closed program ranges outer e held hereditary_jumps_of Descendant (λ place path i at at'. (program.each place path i at at').hereditary_jumps);
+  jumps = ranges_had s paths p closed program ranges outer e held jumps_of Child (λ address path i at at'. (program.each address path i at at').jumps);
+  hereditary_jumps = ranges_had s paths p closed program ranges outer e held hereditary_jumps_of Descendant (λ address path i at at'. (program.each address path i at at').hereditary_jumps);
 }

@@ -1,5 +1,5 @@
 -- A program and a stack that stand for events, one event on.
-use Rattle.lol_vm.proofs.Common.{◌≡◌, ℕ, zero, suc, ◌+◌, ◌-◌, ◌<◌, ◌≤◌, Bool, true, false, cond, not, List, [], ◌∷◌, ◌++◌, length, map, take, drop, position, Option, Some, None, refl, sym, ap, ◌∙◌, subst, arith, nat_le, max, ◌&&◌, if◌then◌else◌, option_map, nat_tests, length-drop, lowercased, Name, LimitedVec, StartTag, Element, Path, Selectors, Event, Start, has_content, Document, empty, element_of, parent_of, same_parent, children_of, typed_children_of, place_of, outer_part, after_start, document, asks, longest, full_count, and-false, IsProgramOf, OpenItem, AreItems, HasRanges, Matches, jumps_of, hereditary_jumps_of, Context, AreTypedIf, StandsOn, StandsFor, IsOrdered, unfinished, item_shown, items_shown, children_shown, items_in, list_in, slots_in, item_bytes_in, root_count, active_in, typed_in, last_count, counted_in, IsSame, IsPushed, IsClosed, IsEnded, IsEndedAt, StackItemOf, StackOf, StackNames, local_name}
+use Rattle.lol_vm.proofs.Common.{◌≡◌, ℕ, zero, suc, ◌+◌, ◌-◌, ◌<◌, ◌≤◌, Bool, true, false, cond, not, List, [], ◌∷◌, ◌++◌, length, map, take, drop, position, Option, Some, None, refl, sym, ap, ◌∙◌, subst, arith, nat_le, max, ◌&&◌, if◌then◌else◌, option_map, nat_tests, length-drop, lowercased, Name, LimitedVec, StartTag, Element, Path, Selectors, Event, Start, has_content, Document, empty, element_of, parent_of, same_parent, children_of, typed_children_of, index_of, outer_part, after_start, document, asks, longest, full_count, and-false, IsProgramOf, OpenItem, AreItems, HasRanges, Matches, jumps_of, hereditary_jumps_of, Context, AreTypedIf, StandsOn, StandsFor, IsOrdered, unfinished, item_shown, items_shown, children_shown, items_in, list_in, slots_in, item_bytes_in, root_count, active_in, typed_in, last_count, counted_in, IsSame, IsPushed, IsClosed, IsEnded, IsEndedAt, StackItemOf, StackOf, StackNames, local_name}
 use Rattle.std.proofs.lemmas.List.{drop-map}
 use Rattle.std.specs.Str.{bytes_eq}
 use Rattle.lol_base.specs.ListLaws.{position-map}
@@ -41,8 +41,8 @@ module _ (paths : List Path) (p : Program) where
   same_names (item ∷ items) [] h = absurd h
   same_names (item ∷ items) (e ∷ outer) h = λ i. h.0.name i ∷ same_names items outer h.1 i
 
-  same_place : (name : List ℕ) (items : List OpenItem) (elements : List Element) → AreItems paths p items elements → position (λ (item : OpenItem). bytes_eq item.name (lowercased name)) items ≡ place_of name elements
-  same_place name items elements h =
+  same_index : (name : List ℕ) (items : List OpenItem) (elements : List Element) → AreItems paths p items elements → position (λ (item : OpenItem). bytes_eq item.name (lowercased name)) items ≡ index_of name elements
+  same_index name items elements h =
       sym (position-map (λ n. bytes_eq n (lowercased name)) (λ (item : OpenItem). item.name) items)
       ∙ (ap (position (λ n. bytes_eq n (lowercased name))) (same_names items elements h)
       ∙ position-map (λ n. bytes_eq n (lowercased name)) (λ (e : Element). lowercased e.tag.name) elements)
@@ -54,13 +54,13 @@ module _ (cs : List Child) (elements : List Element) where
   at_most l highest k h = grind (arith, nat_tests)
 
   -- the elements from one on are closed
-  typed_cut : (n place : ℕ) → length (drop n elements) ≡ place → (kept : Option (List TypedCount)) (by_type : Bool) → AreTypedIf kept by_type cs elements
-      → AreTypedIf (option_map (cut_to place) kept) by_type cs (drop n elements)
-  typed_cut n place left None by_type are = are
-  typed_cut n place left (Some ts) by_type are = (
+  typed_cut : (n depth : ℕ) → length (drop n elements) ≡ depth → (kept : Option (List TypedCount)) (by_type : Bool) → AreTypedIf kept by_type cs elements
+      → AreTypedIf (option_map (cut_to depth) kept) by_type cs (drop n elements)
+  typed_cut n depth left None by_type are = are
+  typed_cut n depth left (Some ts) by_type are = (
     are.0,
-    subst (λ top. StandUpTo top (cut_to place ts)) (sym left) (cutting_stands ts (length elements) place are.1),
-    typed_same ts (cut_to place ts) cs (drop n elements) (λ l name within. cutting_drops_above ts place (length elements) are.1.climb l (lowercased name) ∙ at_most l place (count_of ts l name) (omega (arith, within, left)))
+    subst (λ top. StandUpTo top (cut_to depth ts)) (sym left) (cutting_stands ts (length elements) depth are.1),
+    typed_same ts (cut_to depth ts) cs (drop n elements) (λ l name within. cutting_drops_above ts depth (length elements) are.1.climb l (lowercased name) ∙ at_most l depth (count_of ts l name) (omega (arith, within, left)))
         (typed_drop ts cs n elements are.2),
   )
 
@@ -193,23 +193,23 @@ module _ {E : Type 0} (s : Selectors) (paths : List Path) (p : Program) where
         }
 
     -- so many elements are closed, from the innermost on
-    closed_stands : (new : StackOf Name StackNames E) (n place : ℕ) → n + place ≡ length (items_in stack) → IsClosed place stack new
+    closed_stands : (new : StackOf Name StackNames E) (n depth : ℕ) → n + depth ≡ length (items_in stack) → IsClosed depth stack new
         → StandsOn s paths p new (record { events = d.events + 1; children = d.children; open_elements = drop n d.open_elements }) (max most (length (drop n d.open_elements)))
-    closed_stands new n place sizes closed =
-        let items : items_in new ≡ take place (items_in stack) = ap (λ (v : LimitedVec (StackItemOf Name E)). v.items) closed.items in
-        let left : length (drop n d.open_elements) ≡ place = length-drop n d.open_elements ∙ omega (arith, sizes, many_are stack p.by_type d stands.counted) in
+    closed_stands new n depth sizes closed =
+        let items : items_in new ≡ take depth (items_in stack) = ap (λ (v : LimitedVec (StackItemOf Name E)). v.items) closed.items in
+        let left : length (drop n d.open_elements) ≡ depth = length-drop n d.open_elements ∙ omega (arith, sizes, many_are stack p.by_type d stands.counted) in
         record {
           program = stands.program;
-          sound = closing_keeps_sound place stack new (omega (arith, sizes)) stands.sound closed;
-          items = subst (λ shown. AreItems paths p shown (drop n d.open_elements)) (shown_cut item_shown (items_in stack) n place sizes ∙ sym (ap items_shown items))
+          sound = closing_keeps_sound depth stack new (omega (arith, sizes)) stands.sound closed;
+          items = subst (λ shown. AreItems paths p shown (drop n d.open_elements)) (shown_cut item_shown (items_in stack) n depth sizes ∙ sym (ap items_shown items))
               (items_drop paths p n (items_shown (items_in stack)) d.open_elements stands.items);
           counted = record {
             root = closed.root ∙ stands.counted.root;
             children = ap children_shown items
-                ∙ (sym (shown_cut (λ (x : StackItemOf Name E). x.child_counter) (items_in stack) n place sizes)
+                ∙ (sym (shown_cut (λ (x : StackItemOf Name E). x.child_counter) (items_in stack) n depth sizes)
                 ∙ (ap (drop n) stands.counted.children ∙ drop-map (λ (e : Element). children_of (Some e.number) d.children) n d.open_elements));
             typed = subst (λ o. AreTypedIf o p.by_type d.children (drop n d.open_elements)) (sym closed.typed)
-                (typed_cut d.children d.open_elements n place left (typed_in stack) p.by_type stands.counted.typed);
+                (typed_cut d.children d.open_elements n depth left (typed_in stack) p.by_type stands.counted.typed);
           };
           charged = ap (λ (v : LimitedVec (StackItemOf Name E)). v.slots) closed.items
               ∙ (same_slots (length (drop n d.open_elements)) (drop_shorter n d.open_elements)
@@ -238,17 +238,17 @@ module _ {E : Type 0} (s : Selectors) (paths : List Path) (p : Program) where
       abbrev Ended : Option ℕ → Type 0
       Ended o = StandsOn s paths p new (record { events = d.events + 1; children = d.children; open_elements = outer_part o d.open_elements }) (max most (length (outer_part o d.open_elements)))
 
-      by_place : (o : Option ℕ) → ((k : ℕ) → o ≡ Some k → k < length shown) → IsEndedAt (option_map (λ k. length (items_in stack) - (k + 1)) o) stack new → Ended o
-      by_place None within same = unclosed_stands new same
-      by_place (Some k) within closed =
+      by_depth : (o : Option ℕ) → ((k : ℕ) → o ≡ Some k → k < length shown) → IsEndedAt (option_map (λ k. length (items_in stack) - (k + 1)) o) stack new → Ended o
+      by_depth None within same = unclosed_stands new same
+      by_depth (Some k) within closed =
           let below = within k refl in
           let many = items_length paths p shown d.open_elements stands.items ∙ sym (many_are stack p.by_type d stands.counted) in
           closed_stands new (k + 1) (length (items_in stack) - (k + 1)) (omega (arith, below, many)) closed
 
-      pub ended_stands : IsEnded stack (local_name name) new → Ended (place_of name d.open_elements)
+      pub ended_stands : IsEnded stack (local_name name) new → Ended (index_of name d.open_elements)
       ended_stands ended =
-          subst Ended (same_place paths p name shown d.open_elements stands.items)
-          (by_place (position (is_named name) shown) (λ k is. found_within (is_named name) shown k is) (subst (λ o. IsEndedAt o stack new) (closes_innermost name stack stands.sound) ended))
+          subst Ended (same_index paths p name shown d.open_elements stands.items)
+          (by_depth (position (is_named name) shown) (λ k is. found_within (is_named name) shown k is) (subst (λ o. IsEndedAt o stack new) (closes_innermost name stack stands.sound) ended))
 
 -- 4. Standing for one event more is standing on its document
 

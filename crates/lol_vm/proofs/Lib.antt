@@ -28,5 +28,5 @@ pub mod GatheringLemmas
 pub mod OutcomeLemmas
 pub mod InstructionLists
 pub mod StackEnds
-pub mod InstructionPlaces
+pub mod InstructionAddresses
 pub mod CallerLemmas

@@ -17,7 +17,7 @@ module _ {A : Type 0} (test : A → Bool) where
       by_test true later = refl
       by_test false later = later ∙ ap (λ n. option_or (position_from test (at + 1) front) (position_from test n back)) (omega arith)
 
-  -- counted from a later place
+  -- counted from a later index
   later : (at j : ℕ) (xs : List A) → position_from test (at + j) xs ≡ option_map (λ n. at + n) (position_from test j xs)
   later at j [] = refl
   later at j (x ∷ xs) = by_test (test x) (ap (λ n. position_from test n xs) (omega arith) ∙ later at (j + 1) xs)

@@ -1,5 +1,5 @@
 -- What one event does to a run.
-use Rattle.lol_vm.proofs.Common.{◌≡◌, ℕ, suc, ◌+◌, ◌-◌, ◌*◌, ◌≤◌, ◌<◌, ◌^◌, Bool, true, false, List, [], ◌∷◌, ◌++◌, length, map, take, drop, reverse, Option, Some, None, refl, sym, ap, ◌∙◌, subst, arith, max, nat_lt, if◌then◌else◌, nat_tests, length-map, length-drop, length-reverse, take_at, drop_at, StartTag, IsLimited, Limiter, charged, full_count, Selectors, Element, after, document, Document, empty, element_of, children_of, closed, place_of, inner_part, after_start, after_end, Event, Start, End, Follows, IsCharged, IsRefusedFor, Stops, opens, refusal_after, StartedElement, Cause, Limit, Counter, longest, exceeds, greatest_count, list_in, last_count, Vm, Stands, stack_in, data_in, slots_charged, slot_bytes, open_after}
+use Rattle.lol_vm.proofs.Common.{◌≡◌, ℕ, suc, ◌+◌, ◌-◌, ◌*◌, ◌≤◌, ◌<◌, ◌^◌, Bool, true, false, List, [], ◌∷◌, ◌++◌, length, map, take, drop, reverse, Option, Some, None, refl, sym, ap, ◌∙◌, subst, arith, max, nat_lt, if◌then◌else◌, nat_tests, length-map, length-drop, length-reverse, take_at, drop_at, StartTag, IsLimited, Limiter, charged, full_count, Selectors, Element, after, document, Document, empty, element_of, children_of, closed, index_of, inner_part, after_start, after_end, Event, Start, End, Follows, IsCharged, IsRefusedFor, Stops, opens, refusal_after, StartedElement, Cause, Limit, Counter, longest, exceeds, greatest_count, list_in, last_count, Vm, Stands, stack_in, data_in, slots_charged, slot_bytes, open_after}
 use Rattle.std.specs.List.{take-map, drop-map}
 use Rattle.lol_memory.specs.Slots.{slots}
 use Rattle.lol_vm.specs.RunRefusals.{allowance_of}
@@ -38,8 +38,8 @@ module _ (s : Selectors) (esi : Bool) (item_bytes : ℕ) (before : Limiter) (vm 
   no_more_at_end : (name : List ℕ) → most ≡ max most (length (after_end d name).open_elements)
   no_more_at_end name =
       let e = enough in
-      let shorter = length-drop (closed_count (place_of name d.open_elements)) d.open_elements in
-      let is = ap length (outer_is (place_of name d.open_elements) d.open_elements) in
+      let shorter = length-drop (closed_count (index_of name d.open_elements)) d.open_elements in
+      let is = ap length (outer_is (index_of name d.open_elements) d.open_elements) in
       omega (arith, e, shorter, is)
 
   stays : (b : Bool) (tag : StartTag) → (b ≡ true → IsLimited (list_in (stack_in vm)) now → ⊥) → before.usage + slots item_bytes (max most (length (after_start d tag b).open_elements)) * item_bytes ≤ before.maximum
@@ -189,13 +189,13 @@ module _ (s : Selectors) (esi : Bool) (item_bytes : ℕ) (before : Limiter) (vm 
 
   module _ (name : List ℕ) where
     abbrev closing : ℕ
-    closing = closed_count (place_of name d.open_elements)
+    closing = closed_count (index_of name d.open_elements)
 
     abbrev numbers_of : List Element → List ℕ
     numbers_of elements = map (λ (e : Element). e.number) elements
 
     open_is : open_after name d.open_elements ≡ drop closing d.open_elements
-    open_is = outer_is (place_of name d.open_elements) d.open_elements
+    open_is = outer_is (index_of name d.open_elements) d.open_elements
 
     as_long : (n : ℕ) → length (reverse (drop n (numbers_of d.open_elements))) ≡ length (drop n d.open_elements)
     as_long n =
@@ -223,7 +223,7 @@ module _ (s : Selectors) (esi : Bool) (item_bytes : ℕ) (before : Limiter) (vm 
 
     inner_is : (o : Option ℕ) → inner_part o d.open_elements ≡ take (closed_count o) d.open_elements
     inner_is None = refl
-    inner_is (Some place) = refl
+    inner_is (Some index) = refl
 
     pub numbers_kept : (new : Vm StartedElement) → data_in new ≡ take (length (open_after name d.open_elements)) kept_data → map (λ (x : StartedElement). x.value) (data_in new) ≡ reverse (numbers_of (after s esi d (End name)).open_elements)
     numbers_kept new kept =
@@ -233,7 +233,7 @@ module _ (s : Selectors) (esi : Bool) (item_bytes : ℕ) (before : Limiter) (vm 
     pub numbers_handed : map (λ (x : StartedElement). x.value) (drop (length (open_after name d.open_elements)) kept_data) ≡ closed name d
     numbers_handed =
         ap (λ (es : List Element). map (λ (x : StartedElement). x.value) (drop (length es) kept_data)) open_is
-        ∙ (handed_at closing ∙ ap (λ (es : List Element). reverse (numbers_of es)) (sym (inner_is (place_of name d.open_elements))))
+        ∙ (handed_at closing ∙ ap (λ (es : List Element). reverse (numbers_of es)) (sym (inner_is (index_of name d.open_elements))))
 
 -- 3. A new machine
 

@@ -1,5 +1,5 @@
 -- What is run of a start tag's ranges where a program has rows.
-use Rattle.lol_vm.proofs.Common.{◌≡◌, ℕ, ◌+◌, ◌-◌, ◌<◌, ◌≤◌, ◌^◌, Bool, true, false, cond, not, ◌&&◌, ◌||◌, and-true, List, [], ◌∷◌, ◌++◌, length, filter, All, Option, Some, None, inl, inr, refl, sym, ap, ◌∙◌, subst, arith, Contains, slice_get, list_any, option_map, Range, range_with_len, tag_attributes, Element, Path, Selectors, Among, among_from_contains, contains_from_among, among_filter, filter_among, among_map, same_bool, and_parts, and_of, at_among, at_within, IsAt, IsProgramOf, places, all_places, HoldOnce, LeftMatches, IsInsideOf, is_tried, left_matches, lowercased}
+use Rattle.lol_vm.proofs.Common.{◌≡◌, ℕ, ◌+◌, ◌-◌, ◌<◌, ◌≤◌, ◌^◌, Bool, true, false, cond, not, ◌&&◌, ◌||◌, and-true, List, [], ◌∷◌, ◌++◌, length, filter, All, Option, Some, None, inl, inr, refl, sym, ap, ◌∙◌, subst, arith, Contains, slice_get, list_any, option_map, Range, range_with_len, tag_attributes, Element, Path, Selectors, Among, among_from_contains, contains_from_among, among_filter, filter_among, among_map, same_bool, and_parts, and_of, at_among, at_within, IsAt, IsProgramOf, addresses, all_addresses, HoldOnce, LeftMatches, IsInsideOf, is_tried, left_matches, lowercased}
 use Rattle.std.specs.Prelude.{min, ◌≢◌}
 use Rattle.std.proofs.lemmas.List.Kept.{AllPairs-filter}
 use Rattle.std.proofs.lemmas.List.Elements.{filter-append, All-weaker, All-contains_itself}
@@ -19,34 +19,34 @@ use Rattle.lol_vm.specs.KeyTries as tries
 use Rattle.lol_vm.specs.KeyTries.{asks_at_once, is_left, node_keys}
 use Rattle.lol_vm.specs.SparedRuns.{all_passing, single, singles, spared}
 use Rattle.lol_vm.proofs.Counted.{Tried}
-use Rattle.lol_vm.proofs.Held.{instruction_at, place_of_node}
+use Rattle.lol_vm.proofs.Held.{instruction_at, address_of_node}
 use Rattle.lol_vm.specs.TriedLaws.{NotAtOnce, tried_left}
 
 -- 1. Addresses as ranges
 
-single_places : (a : ℕ) → a < 2 ^ 63 → places (single a) ≡ a ∷ []
-single_places a small =
+single_addresses : (a : ℕ) → a < 2 ^ 63 → addresses (single a) ≡ a ∷ []
+single_addresses a small =
     let count : min (a + 1) (2 ^ 64 - 1) - a ≡ 1 = omega (arith, small) in
     ap (range_with_len a) count
 
-pub singles_places : (xs : List ℕ) → ((a : ℕ) → Among xs a → a < 2 ^ 63) → all_places (singles xs) ≡ xs
-singles_places [] small = refl
-singles_places (x ∷ xs) small = λ i. single_places x (small x (inl refl)) i ++ singles_places xs (λ a h. small a (inr h)) i
+pub singles_addresses : (xs : List ℕ) → ((a : ℕ) → Among xs a → a < 2 ^ 63) → all_addresses (singles xs) ≡ xs
+singles_addresses [] small = refl
+singles_addresses (x ∷ xs) small = λ i. single_addresses x (small x (inl refl)) i ++ singles_addresses xs (λ a h. small a (inr h)) i
 
-pub singles_few : (xs : List ℕ) → length (all_places (singles xs)) ≤ length xs
+pub singles_few : (xs : List ℕ) → length (all_addresses (singles xs)) ≤ length xs
 singles_few [] = omega arith
 singles_few (x ∷ xs) =
     let one = length-range_with_len x (min (x + 1) (2 ^ 64 - 1) - x) in
-    let all = length-append (places (single x)) (all_places (singles xs)) in
+    let all = length-append (addresses (single x)) (all_addresses (singles xs)) in
     let rest = singles_few xs in
     omega (arith, one, all, rest)
 
 -- 2. What passes of ranges
 
-passing_all : (left : Instruction → Bool) (instructions : List Instruction) (ranges : List (Range ℕ)) → all_passing left instructions ranges ≡ filter (passes_at left instructions) (all_places ranges)
+passing_all : (left : Instruction → Bool) (instructions : List Instruction) (ranges : List (Range ℕ)) → all_passing left instructions ranges ≡ filter (passes_at left instructions) (all_addresses ranges)
 passing_all left instructions [] = refl
 passing_all left instructions (r ∷ ranges) =
-    ap (λ xs. passing left instructions r ++ xs) (passing_all left instructions ranges) ∙ sym (filter-append (passes_at left instructions) (places r) (all_places ranges))
+    ap (λ xs. passing left instructions r ++ xs) (passing_all left instructions ranges) ∙ sym (filter-append (passes_at left instructions) (addresses r) (all_addresses ranges))
 
 pub any_append : {T : Type 0} (q : T → Bool) (xs ys : List T) → list_any q (xs ++ ys) ≡ (list_any q xs || list_any q ys)
 any_append q [] ys = refl
@@ -56,10 +56,10 @@ any_append q (x ∷ xs) ys = by_test (q x) (any_append q xs ys)
     by_test true more = refl
     by_test false more = more
 
-any_passes : (left : Instruction → Bool) (instructions : List Instruction) (ranges : List (Range ℕ)) → list_any (some_pass left instructions) ranges ≡ list_any (passes_at left instructions) (all_places ranges)
+any_passes : (left : Instruction → Bool) (instructions : List Instruction) (ranges : List (Range ℕ)) → list_any (some_pass left instructions) ranges ≡ list_any (passes_at left instructions) (all_addresses ranges)
 any_passes left instructions [] = refl
 any_passes left instructions (r ∷ ranges) =
-    ap (λ b. list_any (passes_at left instructions) (places r) || b) (any_passes left instructions ranges) ∙ sym (any_append (passes_at left instructions) (places r) (all_places ranges))
+    ap (λ b. list_any (passes_at left instructions) (addresses r) || b) (any_passes left instructions ranges) ∙ sym (any_append (passes_at left instructions) (addresses r) (all_addresses ranges))
 
 -- a key that a tag lacks
 lacks_same : (key : Option AttributeKey) (e : Element) → lacks_key key (tag_attributes e.tag) ≡ lacks key e
@@ -92,17 +92,17 @@ filter_few q (x ∷ xs) = by_test (q x) (filter_few q xs)
     by_test false few = omega (arith, few)
 
 -- no more passes than there is
-pub passing_few : (left : Instruction → Bool) (instructions : List Instruction) (ranges : List (Range ℕ)) → length (all_passing left instructions ranges) ≤ length (all_places ranges)
+pub passing_few : (left : Instruction → Bool) (instructions : List Instruction) (ranges : List (Range ℕ)) → length (all_passing left instructions ranges) ≤ length (all_addresses ranges)
 passing_few left instructions ranges =
     let found = ap length (passing_all left instructions ranges) in
-    let few = filter_few (passes_at left instructions) (all_places ranges) in
+    let few = filter_few (passes_at left instructions) (all_addresses ranges) in
     omega (arith, found, few)
 
 -- no more is run than where nothing is spared
-pub spared_few : (prog : Program) (left : Instruction → Bool) (ranges : List (Range ℕ)) → length (all_places (spared prog left ranges)) ≤ length (all_places ranges)
+pub spared_few : (prog : Program) (left : Instruction → Bool) (ranges : List (Range ℕ)) → length (all_addresses (spared prog left ranges)) ≤ length (all_addresses ranges)
 spared_few prog left ranges = by_rows (has_rows prog)
   where
-    by_rows : (b : Bool) → length (all_places (cond b (singles (all_passing left prog.instructions.items ranges)) ranges)) ≤ length (all_places ranges)
+    by_rows : (b : Bool) → length (all_addresses (cond b (singles (all_passing left prog.instructions.items ranges)) ranges)) ≤ length (all_addresses ranges)
     by_rows true =
         let few = passing_few left prog.instructions.items ranges in
         let singled = singles_few (all_passing left prog.instructions.items ranges) in
@@ -118,19 +118,19 @@ module _ (s : Selectors) (paths : List Path) (prog : Program) (program : IsProgr
   abbrev shown : Instruction → programs.Instruction
   shown = instruction_shown prog.enable_nth_of_type
 
-  -- the instruction at the place of a path has its node's keys
-  code_at : (place : ℕ) (path : Path) → IsAt paths place path → (i : Instruction) × (slice_get all place ≡ Some i) × (keys_of i ≡ node_keys path)
-  code_at place path at = by_get (slice_get all place) refl
+  -- the instruction at the address of a path has its node's keys
+  code_at : (address : ℕ) (path : Path) → IsAt paths address path → (i : Instruction) × (slice_get all address ≡ Some i) × (keys_of i ≡ node_keys path)
+  code_at address path at = by_get (slice_get all address) refl
     where
-      there : (i : programs.Instruction) × IsAt (program_shown prog).instructions place i
-      there = instruction_at s paths (program_shown prog) program place path at
+      there : (i : programs.Instruction) × IsAt (program_shown prog).instructions address i
+      there = instruction_at s paths (program_shown prog) program address path at
 
-      by_get : (o : Option Instruction) → slice_get all place ≡ o → (i : Instruction) × (slice_get all place ≡ Some i) × (keys_of i ≡ node_keys path)
-      by_get None none = absurd (not_none (sym (slice_get-map shown all place ∙ ap (option_map shown) none) ∙ there.1))
+      by_get : (o : Option Instruction) → slice_get all address ≡ o → (i : Instruction) × (slice_get all address ≡ Some i) × (keys_of i ≡ node_keys path)
+      by_get None none = absurd (not_none (sym (slice_get-map shown all address ∙ ap (option_map shown) none) ∙ there.1))
         where
           not_none : {A : Type 0} {x : A} → None ≡ Some x → ⊥
           not_none h = cc
-      by_get (Some i) is = (i, is, (program.each place path (shown i) at (slice_get-map shown all place ∙ ap (option_map shown) is)).keys)
+      by_get (Some i) is = (i, is, (program.each address path (shown i) at (slice_get-map shown all address ∙ ap (option_map shown) is)).keys)
 
   -- of ranges, what passes
   abbrev found : (Instruction → Bool) → List ℕ
@@ -138,9 +138,9 @@ module _ (s : Selectors) (paths : List Path) (prog : Program) (program : IsProgr
 
   -- tests of instructions by keys are tests of their nodes
   module _ (left : Instruction → Bool) (node_left : Path → Bool) (same : (path : Path) (i : Instruction) → keys_of i ≡ node_keys path → left i ≡ node_left path) where
-    passes_where : (place : ℕ) (path : Path) → IsAt paths place path → passes_at left all place ≡ node_left path
-    passes_where place path at =
-        let code = code_at place path at in
+    passes_where : (address : ℕ) (path : Path) → IsAt paths address path → passes_at left all address ≡ node_left path
+    passes_where address path at =
+        let code = code_at address path at in
         ap passes_of code.1 ∙ same path code.0 code.2
       where
         passes_of : Option Instruction → Bool
@@ -153,39 +153,39 @@ module _ (s : Selectors) (paths : List Path) (prog : Program) (program : IsProgr
         any_passes left all ranges
         ∙ same_bool _ _
         (λ h.
-        let place = among_any (passes_at left all) (all_places ranges) h in
-        let x = (held.members place.0).0 (contains_from_among (all_places ranges) place.0 place.1) in
-        any_among (λ path. left_matches path outer && node_left path) s.nodes x.0 (among_from_contains s.nodes x.0 ((program.same x.0).0 (contains_from_among paths x.0 (at_among paths place.0 x.0 x.1))))
-        (and_of (left_matches x.0 outer) (node_left x.0) x.2 (sym (passes_where place.0 x.0 x.1) ∙ place.2)))
+        let address = among_any (passes_at left all) (all_addresses ranges) h in
+        let x = (held.members address.0).0 (contains_from_among (all_addresses ranges) address.0 address.1) in
+        any_among (λ path. left_matches path outer && node_left path) s.nodes x.0 (among_from_contains s.nodes x.0 ((program.same x.0).0 (contains_from_among paths x.0 (at_among paths address.0 x.0 x.1))))
+        (and_of (left_matches x.0 outer) (node_left x.0) x.2 (sym (passes_where address.0 x.0 x.1) ∙ address.2)))
         (λ h.
         let node = among_any (λ path. left_matches path outer && node_left path) s.nodes h in
         let parts = and_parts (left_matches node.0 outer) (node_left node.0) node.2 in
-        let place = place_of_node s paths (program_shown prog) program node.0 (contains_from_among s.nodes node.0 node.1) in
-        any_among (passes_at left all) (all_places ranges) place.0 (among_from_contains (all_places ranges) place.0 ((held.members place.0).1 (node.0, place.1, parts.0))) (passes_where place.0 node.0 place.1 ∙ parts.1))
+        let address = address_of_node s paths (program_shown prog) program node.0 (contains_from_among s.nodes node.0 node.1) in
+        any_among (passes_at left all) (all_addresses ranges) address.0 (among_from_contains (all_addresses ranges) address.0 ((held.members address.0).1 (node.0, address.1, parts.0))) (passes_where address.0 node.0 address.1 ∙ parts.1))
 
     module _ (size : length all < 2 ^ 63) where
-      small : (a : ℕ) → Among (filter (passes_at left all) (all_places ranges)) a → a < 2 ^ 63
+      small : (a : ℕ) → Among (filter (passes_at left all) (all_addresses ranges)) a → a < 2 ^ 63
       small a h =
-          let inside = passing_address left all a (among_filter (passes_at left all) (all_places ranges) a h).1 in
+          let inside = passing_address left all a (among_filter (passes_at left all) (all_addresses ranges) a h).1 in
           omega (arith, inside, size)
 
-      found_places : all_places (singles (found left)) ≡ filter (passes_at left all) (all_places ranges)
-      found_places = ap (λ xs. all_places (singles xs)) (passing_all left all ranges) ∙ singles_places _ small
+      found_addresses : all_addresses (singles (found left)) ≡ filter (passes_at left all) (all_addresses ranges)
+      found_addresses = ap (λ xs. all_addresses (singles xs)) (passing_all left all ranges) ∙ singles_addresses _ small
 
-      -- they hold the places of what is tried, where that is what passes
+      -- they hold the addresses of what is tried, where that is what passes
       found_held : ((path : Path) → left_matches path outer ≡ true → is_tried s e outer path ≡ node_left path) → HoldOnce paths (singles (found left)) (Tried s e outer)
       found_held tried = record {
-        once = subst Once (sym found_places) (AllPairs-filter (λ a b. a ≢ b) (passes_at left all) (all_places ranges) held.once);
-        members = λ place. (
+        once = subst Once (sym found_addresses) (AllPairs-filter (λ a b. a ≢ b) (passes_at left all) (all_addresses ranges) held.once);
+        members = λ address. (
           λ c.
-              let h = among_filter (passes_at left all) (all_places ranges) place (subst (λ xs. Among xs place) found_places (among_from_contains (all_places (singles (found left))) place c)) in
-              let x = (held.members place).0 (contains_from_among (all_places ranges) place h.0) in
-              (x.0, x.1, tried x.0 x.2 ∙ (sym (passes_where place x.0 x.1) ∙ h.1)),
+              let h = among_filter (passes_at left all) (all_addresses ranges) address (subst (λ xs. Among xs address) found_addresses (among_from_contains (all_addresses (singles (found left))) address c)) in
+              let x = (held.members address).0 (contains_from_among (all_addresses ranges) address h.0) in
+              (x.0, x.1, tried x.0 x.2 ∙ (sym (passes_where address x.0 x.1) ∙ h.1)),
           λ h.
               let fits = tried_left s e outer h.0 h.2 in
-              let there = among_from_contains (all_places ranges) place ((held.members place).1 (h.0, h.1, fits)) in
-              contains_from_among (all_places (singles (found left))) place (subst (λ xs. Among xs place) (sym found_places)
-              (filter_among (passes_at left all) (all_places ranges) place there (passes_where place h.0 h.1 ∙ (sym (tried h.0 fits) ∙ h.2)))),
+              let there = among_from_contains (all_addresses ranges) address ((held.members address).1 (h.0, h.1, fits)) in
+              contains_from_among (all_addresses (singles (found left))) address (subst (λ xs. Among xs address) (sym found_addresses)
+              (filter_among (passes_at left all) (all_addresses ranges) address there (passes_where address h.0 h.1 ∙ (sym (tried h.0 fits) ∙ h.2)))),
         );
       }
 
@@ -260,7 +260,7 @@ module _ (s : Selectors) (paths : List Path) (prog : Program) (program : IsProgr
       by_rows : (b : Bool) → All (IsInsideOf all) (cond b (singles (found left)) ranges)
       by_rows true = All-weaker (Contains (singles (found left))) (IsInsideOf all) (λ r c.
           let from = among_map single (found left) r (among_from_contains (singles (found left)) r c) in
-          let passes = among_filter (passes_at left all) (all_places ranges) from.0 (subst (λ xs. Among xs from.0) (passing_all left all ranges) from.1) in
+          let passes = among_filter (passes_at left all) (all_addresses ranges) from.0 (subst (λ xs. Among xs from.0) (passing_all left all ranges) from.1) in
           let at = passing_address left all from.0 passes.1 in
           let one : IsInsideOf all (single from.0) = (omega (arith, at, size), omega (arith, at, size)) in
           subst (IsInsideOf all) from.2 one) (singles (found left)) (All-contains_itself (singles (found left)))

@@ -1,5 +1,5 @@
 -- Stacks that count children.
-use Rattle.lol_vm.proofs.Common.{◌≡◌, ℕ, ◌+◌, ◌-◌, ◌<◌, ◌≤◌, Bool, true, false, cond, List, [], ◌∷◌, ◌++◌, length, map, reverse, Option, Some, None, refl, sym, ap, ◌∙◌, subst, arith, ◌&&◌, ◌==◌, count_by, slice_get, slice_set, unwrap_or, if◌then◌else◌, option_map, length-map, length-reverse, map-append, reverse-append, Decides-eqb, and_parts, same_bool, count_by-cons, same_name, lowercased, Name, local_name, same_local_name, StartTag, full_count, Element, Document, after_start, parent_of, same_parent, children_of, typed_children_of, AreTyped, AreTypedIf, CountersArePlaces, Descend, HasCounted, items_in, typed_in, last_count, count_or, counted_in, counted_if, counted_item, with_typed, count_by_type, root_count, slots_in, item_bytes_in, item_shown, items_shown, children_shown, StackItemOf, StackOf, StackNames}
+use Rattle.lol_vm.proofs.Common.{◌≡◌, ℕ, ◌+◌, ◌-◌, ◌<◌, ◌≤◌, Bool, true, false, cond, List, [], ◌∷◌, ◌++◌, length, map, reverse, Option, Some, None, refl, sym, ap, ◌∙◌, subst, arith, ◌&&◌, ◌==◌, count_by, slice_get, slice_set, unwrap_or, if◌then◌else◌, option_map, length-map, length-reverse, map-append, reverse-append, Decides-eqb, and_parts, same_bool, count_by-cons, same_name, lowercased, Name, local_name, same_local_name, StartTag, full_count, Element, Document, after_start, parent_of, same_parent, children_of, typed_children_of, AreTyped, AreTypedIf, CountersArePositions, Descend, HasCounted, items_in, typed_in, last_count, count_or, counted_in, counted_if, counted_item, with_typed, count_by_type, root_count, slots_in, item_bytes_in, item_shown, items_shown, children_shown, StackItemOf, StackOf, StackNames}
 use Rattle.std.proofs.Common.{length-append}
 use Rattle.std.proofs.lemmas.Slice.Eq.{bytes_eq-Decides}
 use Rattle.lol_stack.specs.ClimbLaws.{counting_stands}
@@ -20,18 +20,18 @@ pub ends : {A : Type 0} (x : A) (xs : List A) → Ends (x ∷ xs)
 ends x [] = record { front = []; last = x; whole = refl }
 ends x (y ∷ xs) = let rest = ends y xs in record { front = x ∷ rest.front; last = rest.last; whole = ap (λ more. x ∷ more) rest.whole }
 
-last_place : {A : Type 0} (front : List A) (x : A) → length (front ++ x ∷ []) - 1 ≡ length front
-last_place front x = ap (λ n. n - 1) (length-append front (x ∷ [])) ∙ omega arith
+last_index : {A : Type 0} (front : List A) (x : A) → length (front ++ x ∷ []) - 1 ≡ length front
+last_index front x = ap (λ n. n - 1) (length-append front (x ∷ [])) ∙ omega arith
 
 pub last_at : {A : Type 0} (front : List A) (x : A) → slice_get (front ++ x ∷ []) (length (front ++ x ∷ []) - 1) ≡ Some x
-last_at {A = A} front x = ap (slice_get (front ++ x ∷ [])) (last_place front x) ∙ at_end front
+last_at {A = A} front x = ap (slice_get (front ++ x ∷ [])) (last_index front x) ∙ at_end front
   where
     at_end : (front : List A) → slice_get (front ++ x ∷ []) (length front) ≡ Some x
     at_end [] = refl
     at_end (y ∷ front) = at_end front
 
 pub last_set : {A : Type 0} (front : List A) (x y : A) → slice_set (front ++ x ∷ []) (length (front ++ x ∷ []) - 1) y ≡ front ++ y ∷ []
-last_set {A = A} front x y = ap (λ k. slice_set (front ++ x ∷ []) k y) (last_place front x) ∙ set_end front
+last_set {A = A} front x y = ap (λ k. slice_set (front ++ x ∷ []) k y) (last_index front x) ∙ set_end front
   where
     set_end : (front : List A) → slice_set (front ++ x ∷ []) (length front) y ≡ front ++ y ∷ []
     set_end [] = refl
@@ -225,8 +225,8 @@ module _ {E : Type 0} (s : StackOf Name StackNames E) (by_type : Bool) (d : Docu
             (typed_are d.children d.open_elements tag.name (room_by_parent room) d.events numbers (typed_in s) by_type are.typed);
       }
 
-pub counters_are_places : {E : Type 0} → CountersArePlaces E
-counters_are_places stack by_type d tag are =
+pub counters_are_positions : {E : Type 0} → CountersArePositions E
+counters_are_positions stack by_type d tag are =
     let name = local_name tag.name in
     let now = counted_in stack name in
     let many = sym (shown_length item_shown (items_in now)) ∙ (ap length (is_counted stack name).items ∙ (shown_length item_shown (items_in stack) ∙ many_are stack by_type d are)) in (

@@ -1,5 +1,5 @@
 -- What the machine runs for a start tag, and what that gives.
-use Rattle.lol_vm.proofs.Common.{◌≡◌, ℕ, suc, zero, reverse, ◌+◌, ◌-◌, ◌<◌, ◌≤◌, ◌^◌, Bool, true, false, List, [], ◌∷◌, ◌++◌, length, map, drop, take, get_or, All, Option, Some, None, refl, sym, ap, ◌∙◌, subst, arith, Contains, drop-cons, slice_get, count_by, length-map, length-drop, length-reverse, map-append, reverse-append, reverse-reverse, take-append-drop, option_map, range_with_len, Range, Name, Among, among_from_contains, Ids, TagAttributes, Sight, sight_of, Path, Selectors, AreClosed, places, all_places, Element, names_counted, attributes_counted, Tries, name_tries, attribute_tries, Gathers, Context, no_context, context_of, branch, is_open_at, run, AreRunnable, IsInsideOf, all_at, value_seen, holds_seen, first_open_from, gathered_by_names, gathered_with_attributes, starts_open, HoldOnce, LeftMatches, active_of, last_jumps, ranges_of_active, ranges_to_run, item_shown, items_shown, items_in, active_in, AreTried, number_of, ranges_from, jumps_of_item, ranges_to_run_in, sight_in, content_of, ExecutionCtx, StackItemOf, StackOf, StackNames, StandsOn, Document, at_places, give_if_there, give_branch, instruction_holds, instruction_value, position_from, is_tried, lowercased, tag_attributes, list_any, or_of, inr, is_html, not, ◌||◌}
+use Rattle.lol_vm.proofs.Common.{◌≡◌, ℕ, suc, zero, reverse, ◌+◌, ◌-◌, ◌<◌, ◌≤◌, ◌^◌, Bool, true, false, List, [], ◌∷◌, ◌++◌, length, map, drop, take, get_or, All, Option, Some, None, refl, sym, ap, ◌∙◌, subst, arith, Contains, drop-cons, slice_get, count_by, length-map, length-drop, length-reverse, map-append, reverse-append, reverse-reverse, take-append-drop, option_map, range_with_len, Range, Name, Among, among_from_contains, Ids, TagAttributes, Sight, sight_of, Path, Selectors, AreClosed, addresses, all_addresses, Element, names_counted, attributes_counted, Tries, name_tries, attribute_tries, Gathers, Context, no_context, context_of, branch, is_open_at, run, AreRunnable, IsInsideOf, all_at, value_seen, holds_seen, first_open_from, gathered_by_names, gathered_with_attributes, starts_open, HoldOnce, LeftMatches, active_of, last_jumps, ranges_of_active, ranges_to_run, item_shown, items_shown, items_in, active_in, AreTried, number_of, ranges_from, jumps_of_item, ranges_to_run_in, sight_in, content_of, ExecutionCtx, StackItemOf, StackOf, StackNames, StandsOn, Document, at_addresses, give_if_there, give_branch, instruction_holds, instruction_value, position_from, is_tried, lowercased, tag_attributes, list_any, or_of, inr, is_html, not, ◌||◌}
 use Rattle.std.proofs.lemmas.List.Sums.{count_by-le-length}
 use Rattle.std.proofs.lemmas.List.FromFn.{length-range_with_len}
 use Rattle.std.proofs.lemmas.List.Quantifiers.{position-Some}
@@ -16,7 +16,7 @@ use Rattle.lol_stack.specs.SoundRangeLaws.{active_after-append}
 use Rattle.lol_stack.specs.SoundStacks.{IsSound, hereditary_jumps_in}
 use Rattle.lol_vm.specs.Matching as matching
 use Rattle.lol_vm.specs.declared.tag_runs.Stop.{Stop}
-use Rattle.lol_vm.proofs.Counted.{Tried, places_are_nodes, places_count_tries}
+use Rattle.lol_vm.proofs.Counted.{Tried, addresses_are_nodes, addresses_count_tries}
 use Rattle.lol_vm.specs.TriedLaws.{NotAtOnce}
 use Rattle.lol_vm.proofs.Spared.{kept_held, named_held, opens_asked, spared_few, spared_inside}
 use Rattle.lol_rows.specs.Rows.{is_left_by_keys, is_left_by_name}
@@ -27,7 +27,7 @@ use Rattle.std.specs.Prelude.{is_some}
 use Rattle.lol_vm.specs.declared.spared_runs.RowSpace.{RowSpace}
 use Rattle.lol_vm.proofs.Held.{ranges_are_inside, ranges_hold_left_matches, programs_have_each_node}
 use Rattle.lol_vm.proofs.InstructionLists.{offset_inside}
-use Rattle.lol_vm.proofs.InstructionPlaces.{names_gather, same_count, same_stop}
+use Rattle.lol_vm.proofs.InstructionAddresses.{names_gather, same_count, same_stop}
 use Rattle.lol_vm.proofs.OutcomeLemmas.{attributes_keep, names_keep}
 use Rattle.lol_vm.proofs.StackCounting.{ends, last_at, shown_push}
 use Rattle.lol_vm.proofs.Stops.{WholeStart, context_by_names, from_number, left_by_names, numbers_are_offsets, started_by_names, stopped_starts_are_whole, stops_leave}
@@ -114,10 +114,10 @@ module _ {E : Type 0} (r : Running E) where
       let within = ranges_are_inside s paths model (items_shown (items_in stack)) outer closed standing.program standing.items q among in
       (within.0, omega (arith, within.1, as_many))) ranges (All-contains_itself ranges)
 
-  -- as many places as there are nodes whose left part matches, of which there are no more than instructions
-  pub few_places : length (all_places ranges) ≤ length instructions
-  few_places =
-      let count = places_are_nodes s paths model closed standing.program ranges (λ path. matching.left_matches path outer) held in
+  -- as many addresses as there are nodes whose left part matches, of which there are no more than instructions
+  pub few_addresses : length (all_addresses ranges) ≤ length instructions
+  few_addresses =
+      let count = addresses_are_nodes s paths model closed standing.program ranges (λ path. matching.left_matches path outer) held in
       let nodes = (programs_have_each_node s paths model closed standing.program).count in
       omega (arith, count, nodes, as_many, count_by-le-length (λ path. matching.left_matches path outer) s.nodes)
 
@@ -126,7 +126,7 @@ module _ {E : Type 0} (r : Running E) where
       let nodes = (programs_have_each_node s paths model closed standing.program).count in
       omega (arith, nodes, as_many, count_by-le-length (is_tried s e outer) s.nodes)
 
--- Ranges that hold the place of each node that is tried for an element, once.
+-- Ranges that hold the address of each node that is tried for an element, once.
 pub record IsChosen {E : Type 0} (r : Running E) (e : Element) (rs : List (Range ℕ)) : Type 0 where
   pub held : HoldOnce r.paths rs (Tried r.s e (outer r))
   pub inside : All (IsInsideOf (instructions r)) rs
@@ -139,7 +139,7 @@ module _ {E : Type 0} (r : Running E) (e : Element) (rs : List (Range ℕ)) (cho
 
   -- so many instructions are run
   pub counted : length (all_at (instructions r) rs) ≡ name_tries s e (outer r)
-  counted = same_count prog e rs chosen.inside ∙ (places_count_tries s paths (model r) rs e (outer r) closed standing.program chosen.held).names
+  counted = same_count prog e rs chosen.inside ∙ (addresses_count_tries s paths (model r) rs e (outer r) closed standing.program chosen.held).names
 
 -- What is tried by name, where nothing is asked for at once, and what is run with attributes, where these are.
 module _ {E : Type 0} (r : Running E) (e : Element) (space : RowSpace) (sparing : IsSparing r.s r.prog space) (size : length (instructions r) < 2 ^ 63) where
@@ -151,7 +151,7 @@ module _ {E : Type 0} (r : Running E) (e : Element) (space : RowSpace) (sparing 
       let few = spared_few r.prog left (ranges r) in
       record {
         inside = inside;
-        room = (omega (arith, names, size, count, few, few_places r), omega (arith, attributes, size, count, few, few_places r));
+        room = (omega (arith, names, size, count, few, few_addresses r), omega (arith, attributes, size, count, few, few_addresses r));
       }
 
   -- whether rows tell that it is asked for at once
@@ -202,10 +202,10 @@ module _ (p : programs.Program) (content : Bool) (e : Element) (x : Context) (ps
       by_content false = refl
 
   pub run_content : run p content e (content_of content x) ps ≡ content_of content (run p true e x ps)
-  run_content = attributes_keep (give_if_there content) (give_if_there true) Same keeps_content (instruction_holds e) (content_of content x) x (at_places p ps) refl
+  run_content = attributes_keep (give_if_there content) (give_if_there true) Same keeps_content (instruction_holds e) (content_of content x) x (at_addresses p ps) refl
 
   pub by_names_content : context_by_names p content e (content_of content x) ps ≡ content_of content (context_by_names p true e x ps)
-  by_names_content = names_keep (give_if_there content) (give_if_there true) Same keeps_content (instruction_value e) (content_of content x) x (at_places p ps) refl
+  by_names_content = names_keep (give_if_there content) (give_if_there true) Same keeps_content (instruction_value e) (content_of content x) x (at_addresses p ps) refl
 
 pub nothing_content : (content : Bool) → no_context ≡ content_of content no_context
 nothing_content true = refl
@@ -246,7 +246,7 @@ module _ {E : Type 0} (ids : E → Ids) (with_ids : E → Ids → E) (ctx : Exec
 -- 6. Tries by names, and what is left of them
 
 -- what is left of a range from an offset on
-range_after : (start end offset : ℕ) → start + offset ≤ end → drop offset (places (record { start = start; end = end })) ≡ places (record { start = start + offset; end = end })
+range_after : (start end offset : ℕ) → start + offset ≤ end → drop offset (addresses (record { start = start; end = end })) ≡ addresses (record { start = start + offset; end = end })
 range_after start end offset inside =
     let sizes : offset + (end - (start + offset)) ≡ end - start = omega (arith, inside) in
     ap (λ n. drop offset (range_with_len start n)) (sym sizes) ∙ dropped_range start offset (end - (start + offset))
@@ -261,7 +261,7 @@ range_after start end offset inside =
         let at : (start + 1) + offset ≡ start + suc offset = omega arith in
         ap (λ k. drop (suc offset) (range_with_len start k)) more ∙ (dropped_range (start + 1) offset n ∙ ap (λ k. range_with_len k n) at)
 
--- the first open place is within, and open
+-- the first open address is within, and open
 first_is : (p : programs.Program) (e : Element) (ps : List ℕ) (n : ℕ) → position_from (is_open_at p e) 0 ps ≡ Some n → (n < length ps) × (starts_open p e (drop n ps) ≡ true)
 first_is p e ps n found =
     let at = position-Some (is_open_at p e) ps n 0 (position_from-zero (is_open_at p e) ps ∙ found) in
@@ -280,7 +280,7 @@ module _ {E : Type 0} (r : Running E) (ids : E → Ids) (with_ids : E → Ids �
     pub stays : StaysThe old new
     stays = subst (StaysThe old) (sym tried.gathered) (names_stay ids with_ids old (sight_in stack name) (all_at all rs))
 
-    pub stop_shown : option_map (number_of all rs) stop ≡ position_from (is_open_at p e) 0 (all_places rs)
+    pub stop_shown : option_map (number_of all rs) stop ≡ position_from (is_open_at p e) 0 (all_addresses rs)
     stop_shown =
         tried.stops
         ∙ (ap (λ z. first_open_from z 0 (all_at all rs)) seen
@@ -291,17 +291,17 @@ module _ {E : Type 0} (r : Running E) (ids : E → Ids) (with_ids : E → Ids �
     gathered none =
         let by_names = names_gather r.prog e rs chosen.inside ids with_ids lends old.with_content old no_context (none, refl) in
         let is_new : gathered_by_names ids with_ids (sight_of p.by_type e) old (all_at all rs) ≡ new = sym (tried.gathered ∙ ap (λ z. gathered_by_names ids with_ids z old (all_at all rs)) seen) in
-        let context : context_by_names p old.with_content e no_context (all_places rs) ≡ content_of old.with_content (started_by_names p true e rs) =
-        ap (λ x. context_by_names p old.with_content e x (all_places rs)) (nothing_content old.with_content) ∙ by_names_content p old.with_content e no_context (all_places rs) in
+        let context : context_by_names p old.with_content e no_context (all_addresses rs) ≡ content_of old.with_content (started_by_names p true e rs) =
+        ap (λ x. context_by_names p old.with_content e x (all_addresses rs)) (nothing_content old.with_content) ∙ by_names_content p old.with_content e no_context (all_addresses rs) in
         subst (λ c. Gathers ids new.stack_item (content_of c (started_by_names p true e rs))) (sym stays.content)
-        (subst (Gathers ids new.stack_item) context (subst (λ (x : ExecutionCtx E). Gathers ids x.stack_item (context_by_names p old.with_content e no_context (all_places rs))) is_new by_names))
+        (subst (Gathers ids new.stack_item) context (subst (λ (x : ExecutionCtx E). Gathers ids x.stack_item (context_by_names p old.with_content e no_context (all_addresses rs))) is_new by_names))
 
   -- where no instruction needs attributes
   module _ {old new : ExecutionCtx E} {before after : Tries} (tried : AreTried ids with_ids (sight_in stack name) all rs old new before after None) where
     pub none_left : left_by_names p e rs ≡ []
-    none_left = stops_leave (is_open_at p e) (all_places rs) ∙ ap (λ o. from_number o (all_places rs)) (sym (stop_shown tried))
+    none_left = stops_leave (is_open_at p e) (all_addresses rs) ∙ ap (λ o. from_number o (all_addresses rs)) (sym (stop_shown tried))
 
-    pub gathered_all : started_by_names p true e rs ≡ context_of p true e (all_places rs)
+    pub gathered_all : started_by_names p true e rs ≡ context_of p true e (all_addresses rs)
     gathered_all =
         ap (λ ps. run p true e (started_by_names p true e rs) ps) (sym none_left) ∙ (whole r e rs chosen true).whole
 
@@ -322,15 +322,15 @@ module _ {E : Type 0} (r : Running E) (ids : E → Ids) (with_ids : E → Ids �
     abbrev stopped : Range ℕ
     stopped = get_or rs stop.range no_range
 
-    found : position_from (is_open_at p e) 0 (all_places rs) ≡ Some number
+    found : position_from (is_open_at p e) 0 (all_addresses rs) ≡ Some number
     found = sym (stop_shown tried)
 
     pub needs : starts_open p e (left_by_names p e rs) ≡ true
-    needs = ap (starts_open p e) (stops_leave (is_open_at p e) (all_places rs) ∙ ap (λ o. from_number o (all_places rs)) found) ∙ (first_is p e (all_places rs) number found).1
+    needs = ap (starts_open p e) (stops_leave (is_open_at p e) (all_addresses rs) ∙ ap (λ o. from_number o (all_addresses rs)) found) ∙ (first_is p e (all_addresses rs) number found).1
 
-    -- what is left are the places of the ranges from the stop on
-    pub left_places : left_by_names p e rs ≡ all_places (ranges_from rs stop)
-    left_places =
+    -- what is left are the addresses of the ranges from the stop on
+    pub left_addresses : left_by_names p e rs ≡ all_addresses (ranges_from rs stop)
+    left_addresses =
         let within = tried.within in
         let front = take stop.range rs in
         let back = drop (stop.range + 1) rs in
@@ -338,14 +338,14 @@ module _ {E : Type 0} (r : Running E) (ids : E → Ids) (with_ids : E → Ids �
         let count = same_count r.prog e front (All-take (IsInsideOf all) stop.range rs chosen.inside) in
         let fits = offset_inside all rs stop within in
         let sizes = length-range_with_len stopped.start (stopped.end - stopped.start) in
-        stops_leave (is_open_at p e) (all_places rs)
-        ∙ (ap (λ o. from_number o (all_places rs)) found
-        ∙ (ap (λ qs. drop number (all_places qs)) parts
-        ∙ (ap (λ n. drop (n + stop.offset) (all_places (front ++ stopped ∷ back))) count
+        stops_leave (is_open_at p e) (all_addresses rs)
+        ∙ (ap (λ o. from_number o (all_addresses rs)) found
+        ∙ (ap (λ qs. drop number (all_addresses qs)) parts
+        ∙ (ap (λ n. drop (n + stop.offset) (all_addresses (front ++ stopped ∷ back))) count
         ∙ (numbers_are_offsets front stopped back stop.offset (omega (arith, fits, sizes))
-        ∙ ap (λ ps. ps ++ all_places back) (range_after stopped.start stopped.end stop.offset fits)))))
+        ∙ ap (λ ps. ps ++ all_addresses back) (range_after stopped.start stopped.end stop.offset fits)))))
 
-    pub names_left : names_counted before ≡ 0 → names_counted after + length (left_by_names p e rs) ≡ length (all_places rs) + 1
+    pub names_left : names_counted before ≡ 0 → names_counted after + length (left_by_names p e rs) ≡ length (all_addresses rs) + 1
     names_left none =
-        let left = ap length (stops_leave (is_open_at p e) (all_places rs) ∙ ap (λ o. from_number o (all_places rs)) found) ∙ length-drop number (all_places rs) in
-        omega (arith, none, tried.names, left, (first_is p e (all_places rs) number found).0)
+        let left = ap length (stops_leave (is_open_at p e) (all_addresses rs) ∙ ap (λ o. from_number o (all_addresses rs)) found) ∙ length-drop number (all_addresses rs) in
+        omega (arith, none, tried.names, left, (first_is p e (all_addresses rs) number found).0)

@@ -77,7 +77,7 @@ module _ (s : Selectors) (esi : Bool) (item_bytes : ℕ) (before : Limiter) (vm 
     follows_dropped g h is = goes_on false ((λ i. has_content esi tag && not (is.dropped i)) ∙ and-false (has_content esi tag)) (ap events_of is.kept ∙ f.numbers)
 
     module _ {F : Type 0} (ids_of : StartedElement → Ids) (step : F → MatchInfo → Unit {0} → F → Type 0) (asked : Bool) (mid : Vm StartedElement) (g h : F) (a : IsAnswered ids_of step s esi events tag asked vm mid g h)
-        (number open_before : ℕ) (place : number ≡ length events) (open_is : open_before ≡ length (data_in vm))
+        (number open_before : ℕ) (next_number : number ≡ length events) (open_is : open_before ≡ length (data_in vm))
         (numbered : open_before < length (data_in mid) → (outer : List StartedElement) (last : StartedElement) → data_in mid ≡ outer ++ last ∷ [] → data_in new ≡ outer ++ (record last { value = number }) ∷ [])
         (unchanged : length (data_in mid) ≤ open_before → data_in new ≡ data_in mid) where
       isnt_dropped : drops ≡ false
@@ -91,7 +91,7 @@ module _ (s : Selectors) (esi : Bool) (item_bytes : ℕ) (before : Limiter) (vm 
       numbers false same = ap events_of (unchanged (let size = ap length same in omega (arith, size, open_is)) ∙ same) ∙ f.numbers
       numbers true (w, one, ids) =
           let size = ap length one ∙ length-append (data_in vm) (w ∷ []) in
-          let events_before : d.events ≡ number = events-document s esi empty events ∙ omega (arith, place) in
+          let events_before : d.events ≡ number = events-document s esi empty events ∙ omega (arith, next_number) in
           ap events_of (numbered (omega (arith, size, open_is)) (data_in vm) w one)
           ∙ (map_push (λ (x : StartedElement). x.value) (data_in vm) (record w { value = number })
           ∙ ((λ i. f.numbers i ++ sym events_before i ∷ []) ∙ sym (reverse-append (d.events ∷ []) (numbers_of d.open_elements))))

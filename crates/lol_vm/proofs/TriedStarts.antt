@@ -1,5 +1,5 @@
 -- What trying a counted start tag by its name comes to.
-use Rattle.lol_vm.proofs.Common.{◌≡◌, Result, Ok, ◌<◌, Bool, true, false, List, Option, Some, None, refl, sym, ap, ◌∙◌, subst, inl, inr, ◌+◌, not, [], ◌∷◌, ◌++◌, length, arith, ◌↔◌, ◌⊎◌, ◌||◌, Name, local_name, StartTag, Namespace, Ids, ascending, full_count, is_html, Element, names_counted, attributes_counted, Tries, Selectors, counted_in, last_count, list_in, items_in, typed_count, element_data_of, ExecutionCtx, StackNames, StackOf, IsLimited, Limiter, Event, has_content, Start, NeedNoMemory, AreRunnable, AreTried, ranges_to_run_in, sight_in, Vm, Stands, IsTagOf, IsAnswered, IsReported, IsTriedAtMost, IsPending, IsEntered, is_asked_for, content_of, list_any, sight_of, all_places, needs_attributes, asks, document, ascending_once, Document, element_of, Gathers, Context, no_context, context_of, unfinished, StackItemOf, StandsOn, Range, ℕ, after_start, max, longest, cond, if◌then◌else◌, lowercased, all_at, name_tries, IsRequest, IsStopIn, ranges_from}
+use Rattle.lol_vm.proofs.Common.{◌≡◌, Result, Ok, ◌<◌, Bool, true, false, List, Option, Some, None, refl, sym, ap, ◌∙◌, subst, inl, inr, ◌+◌, not, [], ◌∷◌, ◌++◌, length, arith, ◌↔◌, ◌⊎◌, ◌||◌, Name, local_name, StartTag, Namespace, Ids, ascending, full_count, is_html, Element, names_counted, attributes_counted, Tries, Selectors, counted_in, last_count, list_in, items_in, typed_count, element_data_of, ExecutionCtx, StackNames, StackOf, IsLimited, Limiter, Event, has_content, Start, NeedNoMemory, AreRunnable, AreTried, ranges_to_run_in, sight_in, Vm, Stands, IsTagOf, IsAnswered, IsReported, IsTriedAtMost, IsPending, IsEntered, is_asked_for, content_of, list_any, sight_of, all_addresses, needs_attributes, asks, document, ascending_once, Document, element_of, Gathers, Context, no_context, context_of, unfinished, StackItemOf, StandsOn, Range, ℕ, after_start, max, longest, cond, if◌then◌else◌, lowercased, all_at, name_tries, IsRequest, IsStopIn, ranges_from}
 use Rattle.std.specs.Result.{IfOk, IsOk}
 use Rattle.lol_memory.specs.declared.match_info.MatchInfo.{MatchInfo}
 use Rattle.lol_stack.specs.Calls.{IsCalledAtEach, reports}
@@ -17,8 +17,8 @@ use Rattle.lol_program.specs.ProgramViews.{program_shown}
 use Rattle.lol_vm.proofs.Children.{documents_are_ordered}
 use Rattle.lol_vm.proofs.Gathered.{runs_give_reports}
 use Rattle.lol_vm.proofs.Kept.{after_unfinished, counted_stands, for_on}
-use Rattle.lol_vm.proofs.StackCounting.{counters_are_places}
-use Rattle.lol_vm.proofs.Starts.{IsChosen, Running, at_once, chosen_by_name, content_ids, counted as run_count, few_places, gathered, gathered_all, left_places, names_all, names_left, needs, no_attributes, no_need, not_at_once, nothing_content, runnable, stays}
+use Rattle.lol_vm.proofs.StackCounting.{counters_are_positions}
+use Rattle.lol_vm.proofs.Starts.{IsChosen, Running, at_once, chosen_by_name, content_ids, counted as run_count, few_addresses, gathered, gathered_all, left_addresses, names_all, names_left, needs, no_attributes, no_need, not_at_once, nothing_content, runnable, stays}
 use Rattle.lol_rows.specs.Rows.{is_left_by_name}
 use Rattle.lol_vm.specs.KeyTries.{asks_at_once, is_left_open, node_keys}
 use Rattle.lol_vm.specs.SparedRuns.{HasRoom, IsSparing, opens_at_once, ranges_by_name}
@@ -108,7 +108,7 @@ module _ {E R : Type 0} {ids : E → Ids} {with_ids : E → Ids → E} {vm new :
   rs = ranges_by_name vm.program (lowercased tag.name) ranges
 
   abbrev x : Context
-  x = context_of p true e (all_places rs)
+  x = context_of p true e (all_addresses rs)
 
   abbrev start : Vm E
   start = record vm { stack = stack; tries = before }
@@ -130,9 +130,9 @@ module _ {E R : Type 0} {ids : E → Ids} {with_ids : E → Ids → E} {vm new :
 
   seen : sight_in stack the_name ≡ sight_of vm.program.enable_nth_of_type e
   seen =
-      let places = counters_are_places vm.stack vm.program.enable_nth_of_type d tag st.standing.counted in
-      let position = ap last_count stack_is ∙ places.0 in
-      let typed = ap (λ (x : StackOf Name StackNames E). typed_count x the_name) stack_is ∙ places.1 t.room in
+      let positions = counters_are_positions vm.stack vm.program.enable_nth_of_type d tag st.standing.counted in
+      let position = ap last_count stack_is ∙ positions.0 in
+      let typed = ap (λ (x : StackOf Name StackNames E). typed_count x the_name) stack_is ∙ positions.1 t.room in
       λ i. record { name = lowercased tag.name; position = position i; typed_position = typed i }
 
   own_is : ctx.stack_item.local_name ≡ the_name
@@ -170,7 +170,7 @@ module _ {E R : Type 0} {ids : E → Ids} {with_ids : E → Ids → E} {vm new :
       asks = asked;
       at_once = now;
       context = no_context;
-      left = all_places ranges;
+      left = all_addresses ranges;
       is_request = asked_at_once p true e ranges;
       named = named_so item t.namespace tag named;
       sight = ap (sight_in stack) own_is ∙ seen;
@@ -178,8 +178,8 @@ module _ {E R : Type 0} {ids : E → Ids} {with_ids : E → Ids → E} {vm new :
       gathered = subst (Gathers ids ctx.stack_item) (nothing_content content) (new_elements_gather ids name ctx.stack_item item);
       goes_on = (refl, knows);
       stopped = tt;
-      places_left = refl;
-      names = ap (λ n. n + length (all_places ranges)) t.no_names ∙ omega arith;
+      addresses_left = refl;
+      names = ap (λ n. n + length (all_addresses ranges)) t.no_names ∙ omega arith;
       attributes = t.no_attributes;
     }
 
@@ -254,8 +254,8 @@ module _ {E R : Type 0} {ids : E → Ids} {with_ids : E → Ids → E} {vm new :
           gathered = has_gathered tried;
           goes_on = (html, same.content ∙ opens_is_so);
           stopped = subst (λ n. IsStopIn vm.program.instructions.items (ranges_by_name vm.program n ranges) stop) next_name tried.1.within;
-          places_left = subst (λ n. left ≡ all_places (ranges_from (ranges_by_name vm.program n ranges) stop)) next_name (left_places running ids with_ids lends e the_name seen rs ok tried.1);
-          names = subst (λ n. names_counted new.tries + length left ≡ length (all_places (ranges_by_name vm.program n ranges)) + 1) next_name (names_left running ids with_ids lends e the_name seen rs ok tried.1 t.no_names);
+          addresses_left = subst (λ n. left ≡ all_addresses (ranges_from (ranges_by_name vm.program n ranges) stop)) next_name (left_addresses running ids with_ids lends e the_name seen rs ok tried.1);
+          names = subst (λ n. names_counted new.tries + length left ≡ length (all_addresses (ranges_by_name vm.program n ranges)) + 1) next_name (names_left running ids with_ids lends e the_name seen rs ok tried.1 t.no_names);
           attributes = by_name.attributes ∙ t.no_attributes;
         }
 
@@ -299,7 +299,7 @@ module _ {E R : Type 0} {ids : E → Ids} {with_ids : E → Ids → E} {vm new :
   never_refused free = by_namespace (is_html tag.namespace) is_tried_so
     where
       by_namespace : (b : Bool) → IsTriedAs ids with_ids start new ctx next result b opens → IsOk result
-      by_namespace true h = h.free st.sparing.rows (λ rows. omega (arith, st.sparing.room rows, few_places running)) (subst (λ b. NeedNoMemory b vm.program.instructions.items) (sym opens_is_so) free)
+      by_namespace true h = h.free st.sparing.rows (λ rows. omega (arith, st.sparing.room rows, few_addresses running)) (subst (λ b. NeedNoMemory b vm.program.instructions.items) (sym opens_is_so) free)
       by_namespace false h = subst (λ r. IsOk r) (sym h.0) refl
 
   module _ (new_is : new ≡ ended) where
@@ -373,7 +373,7 @@ module _ {E : Type 0} {ids : E → Ids} {with_ids : E → Ids → E} {vm new : V
     pub begun_pending : (point : RecoveryPoint) → stopped ≡ Some point → IsPending ids s esi events tag new (left_at next point)
     begun_pending point at = pending b.trial s esi events tag st named b.kept point (ap Ok at)
 
-    pub begun_complete : stopped ≡ None → IsComplete ids s esi events tag false next (context_of (program_shown vm.program) true (element_of (document s esi events) tag) (all_places (ranges_by_name vm.program (lowercased tag.name) (ranges_to_run_in vm.program b.trial.stack)))) new.tries
+    pub begun_complete : stopped ≡ None → IsComplete ids s esi events tag false next (context_of (program_shown vm.program) true (element_of (document s esi events) tag) (all_addresses (ranges_by_name vm.program (lowercased tag.name) (ranges_to_run_in vm.program b.trial.stack)))) new.tries
     begun_complete at = complete b.trial s esi events tag st named b.kept (ap Ok at)
 
     pub begun_answered : stopped ≡ None → {F : Type 0} (step : F → MatchInfo → Unit {0} → F → Type 0) (f g : F) (last : Vm E)

@@ -1,5 +1,5 @@
 -- Machines with other data of their last element.
-use Rattle.lol_vm.proofs.Common.{◌≡◌, ℕ, suc, zero, ◌-◌, List, [], ◌∷◌, ◌++◌, length, map, Option, Some, None, refl, sym, ap, subst, ◌∙◌, reverse, slice_get, slice_set, option_map, length-map, Name, ranges_of_active, longest, item_shown, items_in, active_in, count_or, typed_in, count_by_type, all_places, Start, unfinished, jumps_of_item, sight_in, tag_ranges, ranges_left, IsPointIn, Vm, instructions_in, data_in, StackItemOf, StackOf, StackNames, some_is, ◌+◌, true, StandsOn, AreItems, Selectors, Path, Document, document, element_of, ranges_to_run_in, IsRequest, names_counted, tried_at}
+use Rattle.lol_vm.proofs.Common.{◌≡◌, ℕ, suc, zero, ◌-◌, List, [], ◌∷◌, ◌++◌, length, map, Option, Some, None, refl, sym, ap, subst, ◌∙◌, reverse, slice_get, slice_set, option_map, length-map, Name, ranges_of_active, longest, item_shown, items_in, active_in, count_or, typed_in, count_by_type, all_addresses, Start, unfinished, jumps_of_item, sight_in, tag_ranges, ranges_left, IsPointIn, Vm, instructions_in, data_in, StackItemOf, StackOf, StackNames, some_is, ◌+◌, true, StandsOn, AreItems, Selectors, Path, Document, document, element_of, ranges_to_run_in, IsRequest, names_counted, tried_at}
 use Rattle.lol_program.specs.Programs.{Program}
 use Rattle.lol_program.specs.ProgramViews.{program_shown}
 use Rattle.lol_program.specs.declared.program.Program as code
@@ -104,8 +104,8 @@ data_keep_requests ids_of s esi events tag vm request w h = record {
   gathered = h.gathered;
   goes_on = h.goes_on;
   stopped = subst (λ rs. IsPointIn (instructions_in vm) rs request.point) back h.stopped;
-  places_left = subst (λ rs. h.left ≡ all_places (ranges_left rs request.point)) back h.places_left;
-  names = subst (λ rs. names_counted vm.tries + length h.left ≡ length (all_places rs) + tried_at request.point) back h.names;
+  addresses_left = subst (λ rs. h.left ≡ all_addresses (ranges_left rs request.point)) back h.addresses_left;
+  names = subst (λ rs. names_counted vm.tries + length h.left ≡ length (all_addresses rs) + tried_at request.point) back h.names;
   attributes = h.attributes;
 }
   where

@@ -1,5 +1,5 @@
 -- Requests that are finished, and what the machine answers to them.
-use Rattle.lol_vm.proofs.Common.{◌≡◌, ℕ, ◌+◌, ◌≤◌, Bool, true, false, not, List, [], ◌∷◌, length, drop, get_or, All, refl, sym, ap, ◌∙◌, subst, arith, count_by, Range, contains_from_among, StartTag, Namespace, Html, Svg, MathML, Ids, ascending, tag_attributes, Selectors, all_places, Element, is_html, Tries, document, ascending_once, attribute_tries, Document, element_of, Event, Start, has_content, has_content_in, Gathers, Context, no_context, context_of, is_open_at, run, gathered_with_attributes, AreRunnable, IsInsideOf, all_at, open_among, starts_open, AreExecuted, AreWithin, IsPointIn, ranges_left, ranges_to_run_in, sight_in, tried_at, Vm, IsAnswered, IsTriedAtMost, IsEntered, IsPending, GoesOnAt, content_in, content_of, ExecutionCtx, StandsOn, after_start, max, longest, unfinished, lowercased, cond, IsRequest, IsStopIn, ranges_from, names_counted, TagAttributes}
+use Rattle.lol_vm.proofs.Common.{◌≡◌, ℕ, ◌+◌, ◌≤◌, Bool, true, false, not, List, [], ◌∷◌, length, drop, get_or, All, refl, sym, ap, ◌∙◌, subst, arith, count_by, Range, contains_from_among, StartTag, Namespace, Html, Svg, MathML, Ids, ascending, tag_attributes, Selectors, all_addresses, Element, is_html, Tries, document, ascending_once, attribute_tries, Document, element_of, Event, Start, has_content, has_content_in, Gathers, Context, no_context, context_of, is_open_at, run, gathered_with_attributes, AreRunnable, IsInsideOf, all_at, open_among, starts_open, AreExecuted, AreWithin, IsPointIn, ranges_left, ranges_to_run_in, sight_in, tried_at, Vm, IsAnswered, IsTriedAtMost, IsEntered, IsPending, GoesOnAt, content_in, content_of, ExecutionCtx, StandsOn, after_start, max, longest, unfinished, lowercased, cond, IsRequest, IsStopIn, ranges_from, names_counted, TagAttributes}
 use Rattle.std.proofs.lemmas.List.Elements.{All-cons, All-drop}
 use Rattle.lol_memory.specs.declared.match_info.MatchInfo.{MatchInfo}
 use Rattle.lol_instructions.specs.declared.instruction.Instruction.{Instruction}
@@ -10,15 +10,15 @@ use Rattle.lol_vm.specs.declared.error.AuxStartTagInfoRequest.{AuxStartTagInfoRe
 use Rattle.lol_vm.specs.declared.tag_runs.RecoveryPoint.{RecoveryPoint}
 use Rattle.lol_vm.specs.declared.tag_runs.RecoveryPoint.TheVariants.{AtOnce, At}
 use Rattle.lol_vm.proofs.Answered.{in_order}
-use Rattle.lol_vm.proofs.Counted.{places_count_tries, TriesAreExact}
+use Rattle.lol_vm.proofs.Counted.{addresses_count_tries, TriesAreExact}
 use Rattle.lol_program.specs.Programs.{Program}
 use Rattle.lol_program.specs.ProgramViews.{has_rows, program_shown}
 use Rattle.lol_vm.proofs.Gathered.{GivesReport, runs_give_reports}
 use Rattle.lol_vm.proofs.GatheringLemmas.{gathered_ids_ascend}
 use Rattle.lol_vm.proofs.InstructionLists.{offset_inside}
-use Rattle.lol_vm.proofs.InstructionPlaces.{attributes_gather, same_count, same_opens}
+use Rattle.lol_vm.proofs.InstructionAddresses.{attributes_gather, same_count, same_opens}
 use Rattle.lol_vm.proofs.Kept.{after_unfinished, on_for}
-use Rattle.lol_vm.proofs.Starts.{IsChosen, Running, few_places, StaysThe, chosen_by_keys, chosen_by_name, within_bounds, attributes_stay, run_content, content_ids}
+use Rattle.lol_vm.proofs.Starts.{IsChosen, Running, few_addresses, StaysThe, chosen_by_keys, chosen_by_name, within_bounds, attributes_stay, run_content, content_ids}
 use Rattle.lol_vm.specs.KeyTries.{asks_at_once, node_keys}
 use Rattle.lol_vm.specs.SparedRuns.{HasRoom, HasRoomFor, IsSparing, all_passing, left_at_point, singles, ranges_after, ranges_before, ranges_by_name}
 use Rattle.lol_vm.specs.Vms.{is_at_once}
@@ -91,48 +91,48 @@ module _ {E : Type 0} (ids : E → Ids) (vm : Vm E) (s : Selectors) (esi : Bool)
   record GoesOn (point : RecoveryPoint) : Type 0 where
     pub chosen : IsChosen running e (rs point)
     pub stopped : IsPointIn all (rs point) point
-    pub finishes : run p true e pending.context (all_places (ranges_left (rs point) point)) ≡ context_of p true e (all_places (rs point))
-    pub names : names_counted vm.tries + length (all_places (ranges_left (rs point) point)) ≡ length (all_places (rs point)) + tried_at point
-    pub opens : count_by (is_open_at p e) (all_places (ranges_left (rs point) point)) ≡ count_by (is_open_at p e) (all_places (rs point))
-    pub one : tried_at point ≤ length (all_places (ranges_left (rs point) point))
+    pub finishes : run p true e pending.context (all_addresses (ranges_left (rs point) point)) ≡ context_of p true e (all_addresses (rs point))
+    pub names : names_counted vm.tries + length (all_addresses (ranges_left (rs point) point)) ≡ length (all_addresses (rs point)) + tried_at point
+    pub opens : count_by (is_open_at p e) (all_addresses (ranges_left (rs point) point)) ≡ count_by (is_open_at p e) (all_addresses (rs point))
+    pub one : tried_at point ≤ length (all_addresses (ranges_left (rs point) point))
 
   goes : GoesOn request.point
-  goes = by_point request.point pending.at_once pending.is_request pending.goes_on pending.stopped pending.places_left pending.names
+  goes = by_point request.point pending.at_once pending.is_request pending.goes_on pending.stopped pending.addresses_left pending.names
     where
       some_left : (left : List ℕ) → starts_open p e left ≡ true → 1 ≤ length left
       some_left [] h = cc
-      some_left (place ∷ left) h = omega arith
+      some_left (address ∷ left) h = omega arith
 
       by_point : (point : RecoveryPoint) → (s.by_keys ≡ true → asks_at_once node_keys s.nodes e d.open_elements ≡ is_at_once point)
           → IsRequest p (is_at_once point) true e (ranges_before vm.program own ranges point) pending.context pending.left
           → GoesOnAt (is_html tag.namespace) (has_content esi tag) pending.context point request.ctx.with_content
           → IsPointIn all (ranges_before vm.program own ranges point) point
-          → pending.left ≡ all_places (ranges_left (ranges_before vm.program own ranges point) point)
-          → names_counted vm.tries + length pending.left ≡ length (all_places (ranges_before vm.program own ranges point)) + tried_at point → GoesOn point
+          → pending.left ≡ all_addresses (ranges_left (ranges_before vm.program own ranges point) point)
+          → names_counted vm.tries + length pending.left ≡ length (all_addresses (ranges_before vm.program own ranges point)) + tried_at point → GoesOn point
       by_point AtOnce at_once is_request goes_on stopped left names = record {
         chosen = chosen_by_keys running e vm.space sparing sparing.size at_once;
         stopped = tt;
-        finishes = ap (λ c. run p true e c (all_places (rs AtOnce))) goes_on.0 ∙ runs_gather p true e no_context (all_places (rs AtOnce));
+        finishes = ap (λ c. run p true e c (all_addresses (rs AtOnce))) goes_on.0 ∙ runs_gather p true e no_context (all_addresses (rs AtOnce));
         names = omega (arith, names, ap length left);
         opens = refl;
         one = omega arith;
       }
       by_point (At stop) at_once is_request goes_on stopped left names =
           let asked = subst (λ n. IsRequest p false true e (ranges_by_name vm.program n ranges) pending.context pending.left) own_is is_request in
-          let places = subst (λ n. pending.left ≡ all_places (ranges_from (ranges_by_name vm.program n ranges) stop)) own_is left in
-          let count = subst (λ n. names_counted vm.tries + length pending.left ≡ length (all_places (ranges_by_name vm.program n ranges)) + 1) own_is names in
+          let addresses = subst (λ n. pending.left ≡ all_addresses (ranges_from (ranges_by_name vm.program n ranges) stop)) own_is left in
+          let count = subst (λ n. names_counted vm.tries + length pending.left ≡ length (all_addresses (ranges_by_name vm.program n ranges)) + 1) own_is names in
           record {
             chosen = chosen_by_name running e vm.space sparing sparing.size at_once;
             stopped = subst (λ n. IsStopIn all (ranges_by_name vm.program n ranges) stop) own_is stopped;
             finishes =
-                ap (run p true e pending.context) (sym places)
+                ap (run p true e pending.context) (sym addresses)
                 ∙ requests_finish p false true e (rs (At stop)) pending.context pending.left asked tag.attributes tag.self_closing tag.finish;
-            names = omega (arith, count, ap length places);
+            names = omega (arith, count, ap length addresses);
             opens =
-                ap (count_by (is_open_at p e)) (sym places)
-                ∙ (left_counted (is_open_at p e) asked.before pending.left (λ place a. asked.closed place (contains_from_among asked.before place a))
+                ap (count_by (is_open_at p e)) (sym addresses)
+                ∙ (left_counted (is_open_at p e) asked.before pending.left (λ address a. asked.closed address (contains_from_among asked.before address a))
                 ∙ ap (count_by (is_open_at p e)) (sym asked.parts));
-            one = omega (arith, some_left pending.left asked.asks, ap length places);
+            one = omega (arith, some_left pending.left asked.asks, ap length addresses);
           }
 
   -- whatever the rest is, where nodes aren't spared
@@ -147,11 +147,11 @@ module _ {E : Type 0} (ids : E → Ids) (vm : Vm E) (s : Selectors) (esi : Bool)
       by_rows false is = refl
 
   -- there is room for what is found
-  pub has_room : has_rows vm.program ≡ true → HasRoomFor vm.space (length (all_places ranges))
-  has_room rows = omega (arith, sparing.room rows, few_places running)
+  pub has_room : has_rows vm.program ≡ true → HasRoomFor vm.space (length (all_addresses ranges))
+  has_room rows = omega (arith, sparing.room rows, few_addresses running)
 
   abbrev pub x : Context
-  x = context_of p true e (all_places (rs request.point))
+  x = context_of p true e (all_addresses (rs request.point))
 
   given : GivesReport s pending.stands.paths p x e d.open_elements
   given = runs_give_reports s pending.stands.paths p (rs request.point) e d.open_elements pending.stands.closed pending.stands.standing.program goes.chosen.held
@@ -160,9 +160,9 @@ module _ {E : Type 0} (ids : E → Ids) (vm : Vm E) (s : Selectors) (esi : Bool)
   are_left = left_inside all (rs request.point) goes.chosen.inside request.point goes.stopped
 
   tries_all : TriesAreExact s p (rs request.point) e d.open_elements
-  tries_all = places_count_tries s pending.stands.paths p (rs request.point) e d.open_elements pending.stands.closed pending.stands.standing.program goes.chosen.held
+  tries_all = addresses_count_tries s pending.stands.paths p (rs request.point) e d.open_elements pending.stands.closed pending.stands.standing.program goes.chosen.held
 
-  left_count : length (all_at all left_code) ≡ length (all_places left_code)
+  left_count : length (all_at all left_code) ≡ length (all_addresses left_code)
   left_count = same_count vm.program e left_code are_left
 
   -- where it goes on, the point is there, and what is left can be run
@@ -242,8 +242,8 @@ module _ {E : Type 0} (ids : E → Ids) (vm : Vm E) (s : Selectors) (esi : Bool)
       all_gathered =
           let gathers = attributes_gather vm.program e left_code are_left ids with_ids lends ctx.with_content ctx (content_of ctx.with_content pending.context) (gathered_before ctx.with_content (content_now self_closing is_closing), refl) in
           let new_is = executed.gathered ∙ ap (λ z. gathered_with_attributes ids with_ids z (tag_attributes tag) ctx (all_at all left_code)) pending.sight in
-          let ran : run p ctx.with_content e (content_of ctx.with_content pending.context) (all_places left_code) ≡ content_of (has_content esi tag) x =
-          run_content p ctx.with_content e pending.context (all_places left_code) ∙ (λ i. content_of (content_now self_closing is_closing i) (goes.finishes i)) in
+          let ran : run p ctx.with_content e (content_of ctx.with_content pending.context) (all_addresses left_code) ≡ content_of (has_content esi tag) x =
+          run_content p ctx.with_content e pending.context (all_addresses left_code) ∙ (λ i. content_of (content_now self_closing is_closing i) (goes.finishes i)) in
           subst (λ (c : ExecutionCtx E). Gathers ids c.stack_item (content_of (has_content esi tag) x)) (sym new_is) (subst (Gathers ids _) ran gathers)
 
       pub complete : IsComplete ids s esi events tag true new_ctx x after

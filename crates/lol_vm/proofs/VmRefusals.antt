@@ -1,5 +1,5 @@
 -- What survives a refusal, and what end tags do.
-use Rattle.lol_vm.proofs.Common.{◌≡◌, ◌-◌, Result, Ok, Err, ℕ, ◌<◌, ◌≤◌, Bool, true, false, List, [], ◌∷◌, ◌++◌, length, take, drop, Option, Some, None, refl, sym, ap, ◌∙◌, subst, arith, ◌↔◌, slice_get, max, nat_lt, if◌then◌else◌, nat_tests, length-set, length-map, length-take, take_all, drop_all, Name, local_name, StartTag, Html, LimitedVec, IsLimited, Limiter, full_count, IsProgramOf, Selectors, Element, document, Document, after_start, after_end, Event, End, items_in, list_in, slots_in, places_in, last_count, counted_in, counted_if, counted_item, with_typed, closed_from, element_data_of, place_to_close, last_below, IsSame, IsEnded, IsEndedAt, IsOrdered, selectors, Vm, Stands, HasOpen, IsRefusal, IsRequested, IsSilent, has_failed, open_after, data_in, OpensNothing, StaysFailed, ExecutionCtx, StackItemOf, StackOf, StackNames, StandsOn, StandsFor, longest, empty}
+use Rattle.lol_vm.proofs.Common.{◌≡◌, ◌-◌, Result, Ok, Err, ℕ, ◌<◌, ◌≤◌, Bool, true, false, List, [], ◌∷◌, ◌++◌, length, take, drop, Option, Some, None, refl, sym, ap, ◌∙◌, subst, arith, ◌↔◌, slice_get, max, nat_lt, if◌then◌else◌, nat_tests, length-set, length-map, length-take, take_all, drop_all, Name, local_name, StartTag, Html, LimitedVec, IsLimited, Limiter, full_count, IsProgramOf, Selectors, Element, document, Document, after_start, after_end, Event, End, items_in, list_in, slots_in, depths_in, last_count, counted_in, counted_if, counted_item, with_typed, closed_from, element_data_of, depth_to_close, last_below, IsSame, IsEnded, IsEndedAt, IsOrdered, selectors, Vm, Stands, HasOpen, IsRefusal, IsRequested, IsSilent, has_failed, open_after, data_in, OpensNothing, StaysFailed, ExecutionCtx, StackItemOf, StackOf, StackNames, StandsOn, StandsFor, longest, empty}
 use Rattle.std.specs.Result.{OnOk, OnErr, IsOk}
 use Rattle.std.specs.List.{take-map, drop-map}
 use Rattle.lol_program.specs.Asts.{nodes_of}
@@ -108,50 +108,50 @@ module _ {E : Type 0} where
         sparing = subst (λ prog. IsSparing s prog new.space) (sym same_program) (subst (IsSparing s vm.program) (sym same_space) h.sparing);
       }
 
-  -- what stays, and what is handed out, where so many elements stay and an end tag closes those from a place on
+  -- what stays, and what is handed out, where so many elements stay and an end tag closes those from a depth on
   pub record EndsAt (vm new : Vm E) (n : ℕ) (o : Option ℕ) : Type 0 where
     pub kept : data_in new ≡ take n (data_in vm)
     pub handed : element_data_of (closed_from o (items_in vm.stack)) ≡ drop n (data_in vm)
 
   pub ends_data : (vm new : Vm E) (elements : List Element) (name : List ℕ) → IsEnded vm.stack (local_name name) new.stack → new.program ≡ vm.program → HasOpen vm elements
-      → EndsAt vm new (length (open_after name elements)) (place_to_close vm.stack (local_name name))
+      → EndsAt vm new (length (open_after name elements)) (depth_to_close vm.stack (local_name name))
   ends_data vm new elements name is same_program h =
       let after = has_open_ended vm new elements same_program h name is in
       let many : length (open_after name elements) ≡ length (items_in new.stack) = sym (ap length after.same) ∙ sym (many_are new.stack new.program.enable_nth_of_type after.document after.standing.counted) in
-      by_place (place_to_close vm.stack (local_name name)) (λ k at. below (length (items_in vm.stack)) (places_in vm.stack (local_name name)) k at) is (length (open_after name elements)) many
+      by_depth (depth_to_close vm.stack (local_name name)) (λ k at. below (length (items_in vm.stack)) (depths_in vm.stack (local_name name)) k at) is (length (open_after name elements)) many
     where
-      by_place : (o : Option ℕ) → ((k : ℕ) → o ≡ Some k → k < length (items_in vm.stack)) → IsEndedAt o vm.stack new.stack → (n : ℕ) → n ≡ length (items_in new.stack)
+      by_depth : (o : Option ℕ) → ((k : ℕ) → o ≡ Some k → k < length (items_in vm.stack)) → IsEndedAt o vm.stack new.stack → (n : ℕ) → n ≡ length (items_in new.stack)
           → EndsAt vm new n o
-      by_place None within ended n many =
+      by_depth None within ended n many =
           let items : items_in new.stack ≡ items_in vm.stack = ap (λ (v : LimitedVec (StackItemOf Name E)). v.items) ended.items in
           let size = length-map (items_in vm.stack) (λ (i : StackItemOf Name E). i.element_data) in
           let enough : length (data_in vm) ≤ n = omega (arith, many, size, ap length items) in
           record { kept = ap element_data_of items ∙ sym (take_all n (data_in vm) enough); handed = sym (drop_all n (data_in vm) enough) }
-      by_place (Some place) within ended n many =
-          let items : items_in new.stack ≡ take place (items_in vm.stack) = ap (λ (v : LimitedVec (StackItemOf Name E)). v.items) ended.items in
-          let less = within place refl in
-          let at : place ≡ n = omega (arith, many, less, ap length items ∙ length-take place (items_in vm.stack)) in
+      by_depth (Some depth) within ended n many =
+          let items : items_in new.stack ≡ take depth (items_in vm.stack) = ap (λ (v : LimitedVec (StackItemOf Name E)). v.items) ended.items in
+          let less = within depth refl in
+          let at : depth ≡ n = omega (arith, many, less, ap length items ∙ length-take depth (items_in vm.stack)) in
           record {
-            kept = ap element_data_of items ∙ (sym (take-map (λ (i : StackItemOf Name E). i.element_data) place (items_in vm.stack)) ∙ ap (λ k. take k (data_in vm)) at);
-            handed = sym (drop-map (λ (i : StackItemOf Name E). i.element_data) place (items_in vm.stack)) ∙ ap (λ k. drop k (data_in vm)) at;
+            kept = ap element_data_of items ∙ (sym (take-map (λ (i : StackItemOf Name E). i.element_data) depth (items_in vm.stack)) ∙ ap (λ k. take k (data_in vm)) at);
+            handed = sym (drop-map (λ (i : StackItemOf Name E). i.element_data) depth (items_in vm.stack)) ∙ ap (λ k. drop k (data_in vm)) at;
           }
 
 -- 3. Stacks that don't change
 
 pub same_stack : {E : Type 0} (stack : StackOf Name StackNames E) → IsSame stack stack
-same_stack stack = record { root = refl; items = refl; active = refl; typed = refl; places = λ q. refl }
+same_stack stack = record { root = refl; items = refl; active = refl; typed = refl; depths = λ q. refl }
 
 -- 4. New machines
 
 pub new_vm_stands : {E : Type 0} (ast : Ast) (prog : Program) (stack : StackOf Name StackNames E) (vm : Vm E) (esi : Bool) (item_bytes : ℕ)
-    → IsProgramOf (selectors ast) (nodes_of ast) (program_shown prog) → IsNew stack (program_shown prog).by_type item_bytes → ((q : Name) → places_in stack q ≡ [])
+    → IsProgramOf (selectors ast) (nodes_of ast) (program_shown prog) → IsNew stack (program_shown prog).by_type item_bytes → ((q : Name) → depths_in stack q ≡ [])
     → vm.program ≡ prog → vm.stack ≡ stack → vm.enable_esi_tags ≡ esi → vm.failed ≡ false → IsSparing (selectors ast) prog vm.space → Stands (selectors ast) esi vm []
-new_vm_stands ast prog stack vm esi item_bytes is new places program has switch failed sparing = record {
+new_vm_stands ast prog stack vm esi item_bytes is new depths program has switch failed sparing = record {
   paths = nodes_of ast;
   closed = trees_are_closed (selectors ast).by_keys ast;
   standing = subst (λ prog. StandsFor (selectors ast) esi (nodes_of ast) (program_shown prog) vm.stack []) (sym program)
       (subst (λ (x : StackOf Name StackNames _). StandsFor (selectors ast) esi (nodes_of ast) (program_shown prog) x []) (sym has)
-      (new_stands (selectors ast) (nodes_of ast) (program_shown prog) stack item_bytes is new (new_is_sound stack (ap (λ (v : LimitedVec (StackItemOf Name _)). v.items) new.items) new.active places)));
+      (new_stands (selectors ast) (nodes_of ast) (program_shown prog) stack item_bytes is new (new_is_sound stack (ap (λ (v : LimitedVec (StackItemOf Name _)). v.items) new.items) new.active depths)));
   switch = switch;
   unfailed = failed;
   sparing = subst (λ prog. IsSparing (selectors ast) prog vm.space) (sym program) sparing;

@@ -39,7 +39,7 @@ children_of parent children = count_by (λ c. same_parent parent c.parent) child
 abbrev pub typed_children_of : Option ℕ → List ℕ → List Child → ℕ
 typed_children_of parent name children = count_by (λ c. same_parent parent c.parent && same_name name c.name) children
 
--- The element of a start tag that comes now. Its place among its parent's children counts each start tag up to it and with it
+-- The element of a start tag that comes now. Its position among its parent's children counts each start tag up to it and with it
 -- (Selectors 4, "Child-indexed Pseudo-classes" and "Typed Child-indexed Pseudo-classes").
 abbrev pub element_of : Document → StartTag → Element
 element_of d tag =
@@ -50,23 +50,23 @@ element_of d tag =
       typed_position = typed_children_of (parent_of d.open_elements) tag.name d.children + 1;
     }
 
--- the place, from the innermost on, of the first open element of this name
-abbrev pub place_of : List ℕ → List Element → Option ℕ
-place_of name elements = position (λ e. same_name e.tag.name name) elements
+-- the index, from the innermost on, of the first open element of this name
+abbrev pub index_of : List ℕ → List Element → Option ℕ
+index_of name elements = position (λ e. same_name e.tag.name name) elements
 
--- the elements up to a place and with it, and those after it
+-- the elements up to an index and with it, and those after it
 abbrev pub inner_part : Option ℕ → List Element → List Element
 inner_part None elements = []
-inner_part (Some place) elements = take (place + 1) elements
+inner_part (Some index) elements = take (index + 1) elements
 
 abbrev pub outer_part : Option ℕ → List Element → List Element
 outer_part None elements = elements
-outer_part (Some place) elements = drop (place + 1) elements
+outer_part (Some index) elements = drop (index + 1) elements
 
 -- The elements that an end tag closes, by their numbers, the outermost first: the innermost open element of its name and all
 -- inside it. (HTML Standard, "The rules for parsing tokens in HTML content": an end tag pops up to an element of its name.)
 abbrev pub closed : List ℕ → Document → List ℕ
-closed name d = reverse (map (λ e. e.number) (inner_part (place_of name d.open_elements) d.open_elements))
+closed name d = reverse (map (λ e. e.number) (inner_part (index_of name d.open_elements) d.open_elements))
 
 -- The document after a start tag, whose element is opened or not.
 abbrev pub after_start : Document → StartTag → Bool → Document
@@ -80,4 +80,4 @@ after_start d tag opens =
 -- The document after an end tag, which changes nothing where its name isn't open.
 abbrev pub after_end : Document → List ℕ → Document
 after_end d name =
-    record { events = d.events + 1; children = d.children; open_elements = outer_part (place_of name d.open_elements) d.open_elements }
+    record { events = d.events + 1; children = d.children; open_elements = outer_part (index_of name d.open_elements) d.open_elements }

@@ -5,7 +5,7 @@ use Rattle.lol_base.specs.StartTags.{StartTag}
 use Rattle.lol_base.specs.declared.namespace.Namespace.{Namespace}
 use Rattle.lol_base.specs.declared.namespace.Namespace.TheVariants.{Html, Svg, MathML}
 
--- A tag (HTML Standard, "Start tags" and "End tags"). Events are known by their places in the list of events, from 0.
+-- A tag (HTML Standard, "Start tags" and "End tags"). Events are known by their indices in the list of events, from 0.
 pub data Event : Type 0 where
   Start : (tag : StartTag) → Event
   End : (name : List ℕ) → Event

@@ -25,7 +25,7 @@ holds_seen s a i = predicate_holds i.predicate s a
 abbrev pub open_among : Sight → List Instruction → ℕ
 open_among s instructions = count_by (λ i. is_open (value_seen s i)) instructions
 
--- the place of the first open one, where the first has the place `at`
+-- the index of the first open one, where the first has the index `at`
 abbrev pub first_open_from : Sight → ℕ → List Instruction → Option ℕ
 first_open_from s at instructions = position_from (λ i. is_open (value_seen s i)) at instructions
 

@@ -7,7 +7,7 @@ use Rattle.lol_program.specs.Paths.{Path, Selectors}
 use Rattle.lol_program.specs.Asts.{pairs_of, nodes_of}
 use Rattle.lol_program.specs.declared.ast.Ast.{Ast}
 use Rattle.lol_vm.specs.Events.{Event, End}
-use Rattle.lol_vm.specs.Documents.{Document, place_of}
+use Rattle.lol_vm.specs.Documents.{Document, index_of}
 use Rattle.lol_vm.specs.Matching.{matches}
 use Rattle.lol_vm.specs.Answers.{Match, Ended, report, answer, answers, after}
 use Rattle.lol_vm.specs.Views.{selectors}
@@ -43,7 +43,7 @@ OrderChangesNothing =
 -- An end tag whose name isn't open closes nothing, and leaves the open elements and all children as they are.
 abbrev pub StrayEndChangesNothing : Type 0
 StrayEndChangesNothing =
-    (s : Selectors) (esi : Bool) (d : Document) (name : List ℕ) → place_of name d.open_elements ≡ None
+    (s : Selectors) (esi : Bool) (d : Document) (name : List ℕ) → index_of name d.open_elements ≡ None
     → (answer s esi d (End name) ≡ Ended [])
     × ((after s esi d (End name)).open_elements ≡ d.open_elements) × ((after s esi d (End name)).children ≡ d.children)
 

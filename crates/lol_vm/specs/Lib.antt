@@ -26,7 +26,7 @@ pub mod AnswerLaws
 pub mod SparedRuns
 pub mod TagRuns
 pub mod Machines
-pub mod PlaceRuns
+pub mod AddressRuns
 pub mod MachineLaws
 pub mod Standing
 pub mod ChargeLaws

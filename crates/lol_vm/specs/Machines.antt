@@ -8,7 +8,7 @@ use Rattle.lol_program.specs.Paths.{Path}
 use Rattle.lol_vm.specs.Matching.{matches, left_matches}
 use Rattle.lol_stack.specs.Active.{activated}
 use Rattle.lol_stack.specs.declared.stack_item.StackItemOf.{StackItemOf}
-use Rattle.lol_program.specs.Programs.{Instruction, Program, IsAt, Once, all_places}
+use Rattle.lol_program.specs.Programs.{Instruction, Program, IsAt, Once, all_addresses}
 
 -- An open element: its name in ASCII lower case, and the ranges that it gives to elements right inside it, and to all inside it.
 pub record OpenItem : Type 0 where
@@ -29,10 +29,10 @@ module _ {E : Type 0} where
   abbrev pub children_shown : List (StackItemOf Name E) → List ℕ
   children_shown items = reverse (map (λ item. item.child_counter) items)
 
--- some place has a path with P, and an instruction with this range
+-- some address has a path with P, and an instruction with this range
 abbrev pub IsReached : (Instruction → Option (Range ℕ)) → List Path → Program → (Path → Type 0) → Range ℕ → Type 0
 IsReached which paths p P r =
-    (place : ℕ) × (path : Path) × (i : Instruction) × IsAt paths place path × IsAt p.instructions place i × (which i ≡ Some r) × P path
+    (address : ℕ) × (path : Path) × (i : Instruction) × IsAt paths address path × IsAt p.instructions address i × (which i ≡ Some r) × P path
 
 -- the ranges of the paths with P, each once
 pub record HasRanges (which : Instruction → Option (Range ℕ)) (paths : List Path) (p : Program) (P : Path → Type 0) (ranges : List (Range ℕ)) : Type 0 where
@@ -63,7 +63,7 @@ AreItems paths p (item ∷ items) [] = ⊥
 
 -- The active ranges
 
--- The distinct hereditary ranges of the items by first appearance, from the outermost item on, each with the place of the first
+-- The distinct hereditary ranges of the items by first appearance, from the outermost item on, each with the depth of the first
 -- item that has it, counted from the outermost, which is 0.
 abbrev pub active_of : List OpenItem → List (Range ℕ × ℕ)
 active_of [] = []
@@ -81,10 +81,10 @@ ranges_of_active active = map (λ a. a.0) active
 abbrev pub ranges_to_run : Program → List OpenItem → List (Range ℕ)
 ranges_to_run p items = p.entry ∷ (last_jumps items ++ ranges_of_active (active_of items))
 
--- ranges that hold the place of each path with P once, and no other place
+-- ranges that hold the address of each path with P once, and no other address
 pub record HoldOnce (paths : List Path) (ranges : List (Range ℕ)) (P : Path → Type 0) : Type 0 where
-  pub once : Once (all_places ranges)
-  pub members : (place : ℕ) → Contains (all_places ranges) place ↔ ((path : Path) × IsAt paths place path × P path)
+  pub once : Once (all_addresses ranges)
+  pub members : (address : ℕ) → Contains (all_addresses ranges) address ↔ ((path : Path) × IsAt paths address path × P path)
 
 abbrev pub LeftMatches : List Element → Path → Type 0
 LeftMatches outer path = left_matches path outer ≡ true

@@ -44,7 +44,7 @@ pub record HasCounted {E : Type 0} (stack : StackOf Name StackNames E) (by_type 
 
 -- 2. Standing
 
--- A program and a stack stand on a document. The program is one of the selectors, where its places are those of these paths. The stack's
+-- A program and a stack stand on a document. The program is one of the selectors, where its addresses are those of these paths. The stack's
 -- lists, items and counters are those of the open elements, and its slots those of the most elements that were open at a time.
 pub record StandsOn {E : Type 0} (s : Selectors) (paths : List Path) (p : Program) (stack : StackOf Name StackNames E) (d : Document) (most : ℕ) : Type 0 where
   pub program : IsProgramOf s paths p
@@ -74,9 +74,9 @@ abbrev pub DocumentsAreOrdered : Type 0
 DocumentsAreOrdered =
     (s : Selectors) (esi : Bool) (events : List Event) → IsOrdered (document s esi events) (longest s esi events)
 
--- The counters of a stack that counts a start tag are its element's places; those by type where the parent's counter isn't full.
-abbrev pub CountersArePlaces : Type 0 → Type 0
-CountersArePlaces E =
+-- The counters of a stack that counts a start tag are its element's positions; those by type where the parent's counter isn't full.
+abbrev pub CountersArePositions : Type 0 → Type 0
+CountersArePositions E =
     (stack : StackOf Name StackNames E) (by_type : Bool) (d : Document) (tag : StartTag) → HasCounted stack by_type d
     → (last_count (counted_in stack (local_name tag.name)) ≡ (element_of d tag).position)
     × (last_count stack < full_count

@@ -73,8 +73,8 @@ SlotsAreOfDepth E =
     (s : Selectors) (esi : Bool) (vm : Vm E) (events : List Event) → Stands s esi vm events
     → slots_charged vm ≡ slots (slot_bytes vm) (longest s esi events)
 
--- What a machine is about to run for a start tag: of some paths, whose places are those of its program, the place of each whose left part
--- matches exactly once, and no other place.
+-- What a machine is about to run for a start tag: of some paths, whose addresses are those of its program, the address of each whose left part
+-- matches exactly once, and no other address.
 pub record RunsEachOnce {E : Type 0} (s : Selectors) (vm : Vm E) (outer : List Element) : Type 0 where
   pub paths : List Path
   pub program : IsProgramOf s paths (program_shown (program_in vm))

@@ -10,7 +10,7 @@ use Rattle.lol_memory.specs.Limiter.{Limiter, charged}
 use Rattle.lol_memory.specs.declared.match_info.MatchInfo.{MatchInfo}
 use Rattle.lol_instructions.specs.Compiled.{sight_of}
 use Rattle.lol_program.specs.Paths.{Path, Selectors}
-use Rattle.lol_program.specs.Programs.{AreClosed, all_places}
+use Rattle.lol_program.specs.Programs.{AreClosed, all_addresses}
 use Rattle.lol_program.specs.ProgramViews.{program_shown}
 use Rattle.lol_vm.specs.KeyTries.{asks_at_once, node_keys}
 use Rattle.lol_vm.specs.SparedRuns.{IsSparing, ranges_before}
@@ -21,9 +21,9 @@ use Rattle.lol_instructions.specs.declared.tries.Tries.{Tries}
 use Rattle.lol_instructions.specs.declared.instruction.Instruction.{Instruction}
 use Rattle.lol_vm.specs.Answers.{report, name_tries, attribute_tries, Match, Started, answer, asks, document}
 use Rattle.lol_stack.specs.Calls.{IsCalledAtEach}
-use Rattle.lol_vm.specs.Documents.{Document, element_of, place_of, outer_part}
+use Rattle.lol_vm.specs.Documents.{Document, element_of, index_of, outer_part}
 use Rattle.lol_vm.specs.Events.{Event, Start, has_content}
-use Rattle.lol_vm.specs.PlaceRuns.{Gathers, Context, no_context}
+use Rattle.lol_vm.specs.AddressRuns.{Gathers, Context, no_context}
 use Rattle.lol_vm.specs.MachineLaws.{IsRequest}
 use Rattle.lol_stack.specs.Stacks.{items_in, element_data_of, slots_in, item_bytes_in, IsPushed}
 use Rattle.lol_vm.specs.Standing.{StandsOn, IsOrdered, StandsFor, unfinished}
@@ -155,7 +155,7 @@ IsSilent Failed = Unit {0}
 
 -- the elements that stay open after an end tag
 abbrev pub open_after : List ℕ → List Element → List Element
-open_after name elements = outer_part (place_of name elements) elements
+open_after name elements = outer_part (index_of name elements) elements
 
 abbrev pub info_of : Match → MatchInfo
 info_of m = record { match_id = m.id; with_content = m.with_content }
@@ -226,8 +226,8 @@ module _ {E : Type 0} (ids_of : E → Ids) where
     pub gathered : Gathers ids_of request.ctx.stack_item (content_of request.ctx.with_content context)
     pub goes_on : GoesOnAt (is_html tag.namespace) (has_content esi tag) context request.point request.ctx.with_content
     pub stopped : IsPointIn (instructions_in vm) (ranges_tried vm request.ctx.stack_item.local_name request.point) request.point
-    pub places_left : left ≡ all_places (ranges_left (ranges_tried vm request.ctx.stack_item.local_name request.point) request.point)
-    pub names : names_counted vm.tries + length left ≡ length (all_places (ranges_tried vm request.ctx.stack_item.local_name request.point)) + tried_at request.point
+    pub addresses_left : left ≡ all_addresses (ranges_left (ranges_tried vm request.ctx.stack_item.local_name request.point) request.point)
+    pub names : names_counted vm.tries + length left ≡ length (all_addresses (ranges_tried vm request.ctx.stack_item.local_name request.point)) + tried_at request.point
     pub attributes : attributes_counted vm.tries ≡ 0
 
 -- 6. Charges

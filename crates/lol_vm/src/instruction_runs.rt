@@ -14,7 +14,7 @@ use std::alloc::{AllocError, Global};
 /// The greatest number of which two can be added.
 const FAR: u64 = u64::MAX / 2;
 
-/// Runs instructions without attributes, up to the first that needs them, and answers its place among them. It is refused only where
+/// Runs instructions without attributes, up to the first that needs them, and answers its index among them. It is refused only where
 /// memory is out.
 #[inline(always)]
 pub(crate) fn try_instructions<E: ElementData>(

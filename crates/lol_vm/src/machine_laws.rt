@@ -1,15 +1,15 @@
 //! Laws of what a machine keeps, each the contract of an empty function.
 
 ghost use Rattle.lol_vm.specs.MachineLaws.{ProgramsHaveEachNode, RangesHoldLeftMatches};
-ghost use Rattle.lol_vm.specs.Standing.{CountersArePlaces, DocumentsAreOrdered};
+ghost use Rattle.lol_vm.specs.Standing.{CountersArePositions, DocumentsAreOrdered};
 
-/// A program has as many instructions as there are nodes, and each node's place is one of theirs.
+/// A program has as many instructions as there are nodes, and each node's address is one of theirs.
 pub fn programs_have_each_node()
     ensures { ProgramsHaveEachNode }
 {}
 
-/// The ranges that are run for a start tag hold the place of each node whose left part matches
-/// exactly once, and no other place.
+/// The ranges that are run for a start tag hold the address of each node whose left part matches
+/// exactly once, and no other address.
 pub fn ranges_hold_left_matches()
     ensures { RangesHoldLeftMatches }
 {}
@@ -20,8 +20,8 @@ pub fn documents_are_ordered()
     ensures { DocumentsAreOrdered }
 {}
 
-/// The counters of a stack that counts a start tag are its element's places among its siblings; those by type where the counter of its
+/// The counters of a stack that counts a start tag are its element's positions among its siblings; those by type where the counter of its
 /// parent isn't full.
-pub fn counters_are_places<E>()
-    ensures { CountersArePlaces E }
+pub fn counters_are_positions<E>()
+    ensures { CountersArePositions E }
 {}

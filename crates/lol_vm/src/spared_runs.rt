@@ -4,7 +4,7 @@ ghost use Rattle.std.specs.Prelude.{ℕ, List, ◌≡◌, ◌++◌, ◌+◌, ◌
 ghost use Rattle.std.specs.List.{list_any};
 ghost use Rattle.std.specs.Vec.{vec_capacity};
 ghost use Rattle.lol_program.specs.ProgramViews.{HasItsRows, has_rows};
-ghost use Rattle.lol_program.specs.Programs.{all_places};
+ghost use Rattle.lol_program.specs.Programs.{all_addresses};
 ghost use Rattle.lol_rows.specs.KeyHashes.{name_hashes as hashes_of};
 ghost use Rattle.lol_rows.specs.Rows.{AreItsHashes, AreRowsOf, is_left_by_keys, is_left_by_name, is_left_open, leaves, some_pass};
 ghost use Rattle.lol_vm.specs.SparedRuns.{HasRoom, HasRoomFor, all_passing, left_at_point, opens_at_once};
@@ -70,7 +70,7 @@ pub(crate) fn find_by_name<E>(
         (ranges_to_run_in program.now stack.now)) }
     ensures free { HasItsRows program.now
         → (has_rows program.now ≡ true
-        → HasRoomFor space.old (length (all_places (ranges_to_run_in program.now stack.now)))) → IsOk result }
+        → HasRoomFor space.old (length (all_addresses (ranges_to_run_in program.now stack.now)))) → IsOk result }
     ensures room { vec_capacity space.old.left ≤ vec_capacity space.new.left }
 {
     match &program.rows {
@@ -98,7 +98,7 @@ pub(crate) fn find_at<E>(
         (ranges_to_run_in program.now stack.now)) }
     ensures free { HasItsRows program.now
         → (has_rows program.now ≡ true
-        → HasRoomFor space.old (length (all_places (ranges_to_run_in program.now stack.now)))) → IsOk result }
+        → HasRoomFor space.old (length (all_addresses (ranges_to_run_in program.now stack.now)))) → IsOk result }
     ensures room { vec_capacity space.old.left ≤ vec_capacity space.new.left }
 {
     match &program.rows {
@@ -133,7 +133,7 @@ fn find_unless_open(
     ensures left { IfOk result (λ asks. asks ≡ false → AreRowsOf instructions.now rows.now → space.new.left.items
         ≡ all_passing (is_left_by_name name.now.lowercased) instructions.now (all_ranges ranges.entry)) }
     ensures free { AreRowsOf instructions.now rows.now
-        → HasRoomFor space.old (length (all_places (all_ranges ranges.entry))) → IsOk result }
+        → HasRoomFor space.old (length (all_addresses (all_ranges ranges.entry))) → IsOk result }
     ensures room { vec_capacity space.old.left ≤ vec_capacity space.new.left }
 {
     let hashes = name_hashes(name);
@@ -158,7 +158,7 @@ fn find_left_by_name<'t>(
         → space.new.left.items
         ≡ all_passing (is_left_by_name name.now.lowercased) instructions.now (all_ranges ranges.entry)) }
     ensures free { AreRowsOf instructions.now rows.now → hashes.now ≡ hashes_of name.now.lowercased
-        → HasRoomFor space.old (length (all_places (all_ranges ranges.entry))) → IsOk result }
+        → HasRoomFor space.old (length (all_addresses (all_ranges ranges.entry))) → IsOk result }
     ensures room { vec_capacity space.old.left ≤ vec_capacity space.new.left }
 {
     let keys = TagKeys::new(name, None, Some(hashes));
@@ -186,7 +186,7 @@ fn find_left_by_keys<'t>(
     ensures left { OnOk result (AreRowsOf instructions.now rows.now → space.new.left.items
         ≡ all_passing (is_left_by_keys name.now.lowercased matcher.now) instructions.now (all_ranges ranges.entry)) }
     ensures free { AreRowsOf instructions.now rows.now
-        → HasRoomFor space.old (length (all_places (all_ranges ranges.entry))) → IsOk result }
+        → HasRoomFor space.old (length (all_addresses (all_ranges ranges.entry))) → IsOk result }
     ensures room { vec_capacity space.old.left ≤ vec_capacity space.new.left }
 {
     space.hashes.clear();
@@ -237,7 +237,7 @@ fn add_left(
         → left.new.items
         ≡ left.old.items ++ all_passing (leaves keys.now) instructions.now (all_ranges ranges.entry)) }
     ensures free { AreRowsOf instructions.now rows.now → AreItsHashes instructions.now keys.now
-        → length left.old.items + length (all_places (all_ranges ranges.entry)) ≤ vec_capacity left.old → IsOk result }
+        → length left.old.items + length (all_addresses (all_ranges ranges.entry)) ≤ vec_capacity left.old → IsOk result }
     ensures room { vec_capacity left.old ≤ vec_capacity left.new }
 {
     for index in 0..ranges.len() {

@@ -36,8 +36,8 @@ pub fn slots_are_of_depth<E>()
     ensures { SlotsAreOfDepth E }
 {}
 
-/// The ranges that a machine is about to run for a start tag, whatever events it stands for, hold the place of each node whose left part
-/// matches exactly once, and no other place.
+/// The ranges that a machine is about to run for a start tag, whatever events it stands for, hold the address of each node whose left part
+/// matches exactly once, and no other address.
 pub fn ranges_hold_once<E>()
     ensures { RangesHoldOnce E }
 {}

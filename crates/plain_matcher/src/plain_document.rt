@@ -98,9 +98,9 @@ fn typed_children_of(parent: Option<usize>, name: &[u8], children: &[PlainChild<
     count
 }
 
-/// The place after so many. It is refused where no `i32` counts it.
-fn place_after(count: usize) -> Result<ChildCounter, AllocError>
-    ensures { IfOk result (λ place. place ≡ count + 1) }
+/// The position after so many. It is refused where no `i32` counts it.
+fn position_after(count: usize) -> Result<ChildCounter, AllocError>
+    ensures { IfOk result (λ position. position ≡ count + 1) }
 {
     let Ok(count) = i32::try_from(count) else {
         return Err(AllocError);
@@ -131,8 +131,8 @@ pub(crate) fn new_element<'e>(
         attributes: AttributeMatcher::new(aux_info.input, aux_info.attr_buffer, ns),
         self_closing: aux_info.self_closing,
         finish,
-        position: place_after(children_of(parent, &document.children))?,
-        typed_position: place_after(typed_children_of(parent, name, &document.children))?,
+        position: position_after(children_of(parent, &document.children))?,
+        typed_position: position_after(typed_children_of(parent, name, &document.children))?,
     })
 }
 
@@ -209,18 +209,18 @@ pub(crate) fn close(
     ensures document { OnOk result ((events : ℕ) → document_shown (events + 1) document.new
         ≡ documents.after_end (document_shown events document.old) name.now) }
 {
-    let Some(place) = place_of(name, &document.open_elements) else {
+    let Some(index) = index_of(name, &document.open_elements) else {
         return Ok(Vec::new(alloc));
     };
-    let numbers = numbers_of(alloc, &document.open_elements[..place + 1])?;
-    remove_first(&mut document.open_elements, place + 1);
+    let numbers = numbers_of(alloc, &document.open_elements[..index + 1])?;
+    remove_first(&mut document.open_elements, index + 1);
     Ok(numbers)
 }
 
-/// The place, from the innermost on, of the first open element of a name.
-fn place_of(name: &[u8], elements: &[PlainElement<'_>]) -> Option<usize>
+/// The index, from the innermost on, of the first open element of a name.
+fn index_of(name: &[u8], elements: &[PlainElement<'_>]) -> Option<usize>
     ensures value { result ≡ position (λ e. names.same_name e.name.now name.now) elements.now }
-    ensures within { IfSome result (λ place. place < length elements.now) }
+    ensures within { IfSome result (λ index. index < length elements.now) }
 {
     elements.iter().position(|e| is_same_name(e.name, name))
 }

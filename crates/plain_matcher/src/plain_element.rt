@@ -202,7 +202,7 @@ fn test_by_names(test: &Test, element: &PlainElement<'_>) -> NameValue
     }
 }
 
-/// What an element's name and place alone say of a compound.
+/// What an element's name and position alone say of a compound.
 #[cycle(valuing)]
 pub(crate) fn by_names(predicate: &Predicate, element: &PlainElement<'_>) -> NameValue
     ensures { result ≡ compounds.by_names (tests_of predicate.now) (element_shown element.now) }

@@ -2,5 +2,5 @@ use Rattle.std.proofs.Common.{◌≡◌, ◌↔◌, IsTrue, take}
 use Rattle.lol_base.specs.Names.{lowercased}
 use Rattle.lol_base.proofs.caseless.are_equal.Given as goal
 
-abbrev pub invariant-loop-place : goal.invariant-loop-place
-invariant-loop-place l = IsTrue l.equal ↔ (lowercased (take l.place l.a) ≡ lowercased (take l.place l.b))
+abbrev pub invariant-loop-offset : goal.invariant-loop-offset
+invariant-loop-offset l = IsTrue l.equal ↔ (lowercased (take l.offset l.a) ≡ lowercased (take l.offset l.b))

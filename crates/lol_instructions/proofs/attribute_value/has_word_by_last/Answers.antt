@@ -1,6 +1,6 @@
 use Rattle.std.proofs.Common.{sym, ◌∙◌}
 use Rattle.std.proofs.lemmas.Bool.{false≢true}
-use Rattle.lol_instructions.proofs.WordPlaces.{IsSearched-init, IsSearched-next, IsSearched-found, IsSearched-all}
+use Rattle.lol_instructions.proofs.WordOffsets.{IsSearched-init, IsSearched-next, IsSearched-found, IsSearched-all}
 use Rattle.lol_instructions.proofs.attribute_value.has_word_by_last.Goals as goal
 
 pub loop-end-init : goal.loop-end-init

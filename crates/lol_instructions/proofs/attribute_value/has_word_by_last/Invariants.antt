@@ -1,5 +1,5 @@
 use Rattle.std.proofs.Common.{◌-◌, length}
-use Rattle.lol_instructions.proofs.WordPlaces.{IsSearched}
+use Rattle.lol_instructions.proofs.WordOffsets.{IsSearched}
 use Rattle.lol_instructions.proofs.attribute_value.has_word_by_last.Given as goal
 
 -- no word that ends up to here is the operand

@@ -7,7 +7,7 @@ use Rattle.lol_program.specs.Growth.{StandsWith, StandsUnder}
 use Rattle.lol_program.specs.Indexed.{IsIndexed}
 use Rattle.lol_program.specs.NodeKeys.{list_under}
 use Rattle.lol_program.specs.NodeViewLaws.{shape}
-use Rattle.lol_program.specs.Places.{HasPlace}
+use Rattle.lol_program.specs.Indices.{HasIndex}
 use Rattle.lol_program.specs.declared.ast_node.AstNode.{AstNode}
 use Rattle.lol_program.specs.declared.ast_node.AstNode.TheViews.{out-AstNode}
 use Rattle.lol_program.specs.IdsForNodes.{Fits}
@@ -22,61 +22,61 @@ unreachable-requires t c =
 pub returns-in-None-clause-fits : goal.returns-in-None-clause-fits
 returns-in-None-clause-fits t c =
     IfOk-weaker c.reserve.result _ _
-    (λ reserved. (stands_here (Fits reserved) (tests_of_compound c.args.first.now) c.args.rest.now c.args.nodes.now c.in-Some.place c.index-nodes-place.result c.in-None.ensures.cases c.in-Some.ensures.some c.index-nodes-place.is).1)
+    (λ reserved. (stands_here (Fits reserved) (tests_of_compound c.args.first.now) c.args.rest.now c.args.nodes.now c.in-Some.index c.index-nodes-index.result c.in-None.ensures.cases c.in-Some.ensures.some c.index-nodes-index.is).1)
     c.reserve.ensures.fits
 
 pub reserve_id-requires : goal.reserve_id-requires
 reserve_id-requires t c =
-    let index = c.args.index.now in
+    let node_index = c.args.node_index.now in
     let first = tests_of_compound c.args.first.now in
     let nodes = c.args.nodes.now in
     let next = c.list_under-list.result in
-    let node = c.index-nodes-place.result in
+    let node = c.index-nodes-index.result in
     let step = c.in-Some-split_first.field-0-0.now in
     let rest = c.in-Some-split_first.rest.now in
-    let at : HasPlace first (map node_of nodes) (map node_of nodes) c.in-Some.place = inl (refl, c.in-Some.ensures.some) in
-    let is = c.list_under-list.ensures ∙ ap (list_under c.args.list c.in-Some.place) c.in-Child.is in
-    let asks = next_asks index c.args.list next c.in-Some.place (shape (out-AstNode node)) Child is (indexed_under first nodes nodes c.in-Some.place node at c.index-nodes-place.is index c.args.list c.requires.indexed)
-    (differ_under first nodes nodes c.in-Some.place node at c.index-nodes-place.is c.requires.differ) in
-    let stands = (stands_further (λ ids. Unit {0}) first c.args.rest.now rest step Child nodes c.in-Some.place node c.in-Some-split_first.ensures.cases.0 c.in-Child.is c.in-Some.ensures.some c.index-nodes-place.is).0 c.requires.stands in (
+    let at : HasIndex first (map node_of nodes) (map node_of nodes) c.in-Some.index = inl (refl, c.in-Some.ensures.some) in
+    let is = c.list_under-list.ensures ∙ ap (list_under c.args.list c.in-Some.index) c.in-Child.is in
+    let asks = next_asks node_index c.args.list next c.in-Some.index (shape (out-AstNode node)) Child is (indexed_under first nodes nodes c.in-Some.index node at c.index-nodes-index.is node_index c.args.list c.requires.indexed)
+    (differ_under first nodes nodes c.in-Some.index node at c.index-nodes-index.is c.requires.differ) in
+    let stands = (stands_further (λ ids. Unit {0}) first c.args.rest.now rest step Child nodes c.in-Some.index node c.in-Some-split_first.ensures.cases.0 c.in-Child.is c.in-Some.ensures.some c.index-nodes-index.is).0 c.requires.stands in (
       omega (arith, ap length c.in-Some-split_first.ensures.cases.0),
-      subst (λ (l : List AstNode). IsIndexed index next (forest_of l) × (SiblingsDiffer (forest_of l) × StandsUnder (tests_of_compound step.1) (steps_of rest) (forest_of l))) (sym c.deref.ensures.value) (asks.0, (asks.1, stands)),
+      subst (λ (l : List AstNode). IsIndexed node_index next (forest_of l) × (SiblingsDiffer (forest_of l) × StandsUnder (tests_of_compound step.1) (steps_of rest) (forest_of l))) (sym c.deref.ensures.value) (asks.0, (asks.1, stands)),
     )
 
 pub returns-in-Child-clause-fits : goal.returns-in-Child-clause-fits
 returns-in-Child-clause-fits t c =
-    let node = c.index-nodes-place.result in
+    let node = c.index-nodes-index.result in
     let step = c.in-Some-split_first.field-0-0.now in
     let rest = c.in-Some-split_first.rest.now in
     IfOk-weaker c.reserve_id.result _ _
-    (λ reserved fits. (stands_further (Fits reserved) (tests_of_compound c.args.first.now) c.args.rest.now rest step Child c.args.nodes.now c.in-Some.place node c.in-Some-split_first.ensures.cases.0 c.in-Child.is c.in-Some.ensures.some c.index-nodes-place.is).1
+    (λ reserved fits. (stands_further (Fits reserved) (tests_of_compound c.args.first.now) c.args.rest.now rest step Child c.args.nodes.now c.in-Some.index node c.in-Some-split_first.ensures.cases.0 c.in-Child.is c.in-Some.ensures.some c.index-nodes-index.is).1
     (subst (λ (l : List AstNode). StandsWith (Fits reserved) (tests_of_compound step.1) (steps_of rest) (forest_of l)) c.deref.ensures.value fits))
     c.reserve_id.ensures.fits
 
 pub reserve_id-requires-in-Descendant : goal.reserve_id-requires-in-Descendant
 reserve_id-requires-in-Descendant t c =
-    let index = c.args.index.now in
+    let node_index = c.args.node_index.now in
     let first = tests_of_compound c.args.first.now in
     let nodes = c.args.nodes.now in
     let next = c.list_under-list.result in
-    let node = c.index-nodes-place.result in
+    let node = c.index-nodes-index.result in
     let step = c.in-Some-split_first.field-0-0.now in
     let rest = c.in-Some-split_first.rest.now in
-    let at : HasPlace first (map node_of nodes) (map node_of nodes) c.in-Some.place = inl (refl, c.in-Some.ensures.some) in
-    let is = c.list_under-list.ensures ∙ ap (list_under c.args.list c.in-Some.place) c.in-Descendant.is in
-    let asks = next_asks index c.args.list next c.in-Some.place (shape (out-AstNode node)) Descendant is (indexed_under first nodes nodes c.in-Some.place node at c.index-nodes-place.is index c.args.list c.requires.indexed)
-    (differ_under first nodes nodes c.in-Some.place node at c.index-nodes-place.is c.requires.differ) in
-    let stands = (stands_further (λ ids. Unit {0}) first c.args.rest.now rest step Descendant nodes c.in-Some.place node c.in-Some-split_first.ensures.cases.0 c.in-Descendant.is c.in-Some.ensures.some c.index-nodes-place.is).0 c.requires.stands in (
+    let at : HasIndex first (map node_of nodes) (map node_of nodes) c.in-Some.index = inl (refl, c.in-Some.ensures.some) in
+    let is = c.list_under-list.ensures ∙ ap (list_under c.args.list c.in-Some.index) c.in-Descendant.is in
+    let asks = next_asks node_index c.args.list next c.in-Some.index (shape (out-AstNode node)) Descendant is (indexed_under first nodes nodes c.in-Some.index node at c.index-nodes-index.is node_index c.args.list c.requires.indexed)
+    (differ_under first nodes nodes c.in-Some.index node at c.index-nodes-index.is c.requires.differ) in
+    let stands = (stands_further (λ ids. Unit {0}) first c.args.rest.now rest step Descendant nodes c.in-Some.index node c.in-Some-split_first.ensures.cases.0 c.in-Descendant.is c.in-Some.ensures.some c.index-nodes-index.is).0 c.requires.stands in (
       omega (arith, ap length c.in-Some-split_first.ensures.cases.0),
-      subst (λ (l : List AstNode). IsIndexed index next (forest_of l) × (SiblingsDiffer (forest_of l) × StandsUnder (tests_of_compound step.1) (steps_of rest) (forest_of l))) (sym c.deref-in-Descendant.ensures.value) (asks.0, (asks.1, stands)),
+      subst (λ (l : List AstNode). IsIndexed node_index next (forest_of l) × (SiblingsDiffer (forest_of l) × StandsUnder (tests_of_compound step.1) (steps_of rest) (forest_of l))) (sym c.deref-in-Descendant.ensures.value) (asks.0, (asks.1, stands)),
     )
 
 pub returns-in-Descendant-clause-fits : goal.returns-in-Descendant-clause-fits
 returns-in-Descendant-clause-fits t c =
-    let node = c.index-nodes-place.result in
+    let node = c.index-nodes-index.result in
     let step = c.in-Some-split_first.field-0-0.now in
     let rest = c.in-Some-split_first.rest.now in
     IfOk-weaker c.reserve_id-in-Descendant.result _ _
-    (λ reserved fits. (stands_further (Fits reserved) (tests_of_compound c.args.first.now) c.args.rest.now rest step Descendant c.args.nodes.now c.in-Some.place node c.in-Some-split_first.ensures.cases.0 c.in-Descendant.is c.in-Some.ensures.some c.index-nodes-place.is).1
+    (λ reserved fits. (stands_further (Fits reserved) (tests_of_compound c.args.first.now) c.args.rest.now rest step Descendant c.args.nodes.now c.in-Some.index node c.in-Some-split_first.ensures.cases.0 c.in-Descendant.is c.in-Some.ensures.some c.index-nodes-index.is).1
     (subst (λ (l : List AstNode). StandsWith (Fits reserved) (tests_of_compound step.1) (steps_of rest) (forest_of l)) c.deref-in-Descendant.ensures.value fits))
     c.reserve_id-in-Descendant.ensures.fits

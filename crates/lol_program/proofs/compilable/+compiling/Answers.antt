@@ -3,7 +3,7 @@ use Rattle.std.specs.Vec.Iter.{into_iter_items}
 use Rattle.lol_instructions.specs.Compounds.{test_has_type, any_of}
 use Rattle.lol_program.specs.Predicates.{test_shown, tests_of}
 use Rattle.lol_program.specs.Compiling.{IsCompiledTest}
-use Rattle.lol_program.proofs.ListPlaces.{empty_from}
+use Rattle.lol_program.proofs.ListIndices.{empty_from}
 use Rattle.lol_program.specs.PredicateListLaws.{test_shown-NoneOf, test_shown-SomeOf}
 use Rattle.lol_program.proofs.CompiledLists.{IsCompiledPredicate, completes_all, tests_compiled, predicates_compiled, none_compiled, some_compiled}
 use Rattle.lol_program.proofs.compilable.+compiling.Goals as goal

@@ -5,5 +5,5 @@ use Rattle.lol_stack.proofs.active_ranges.add_missing.Given as goal
 abbrev pub invariant-loop-range : goal.invariant-loop-range
 invariant-loop-range l = record {
   room : vec_len l.active + length (drop l.range-index l.ranges) ≤ vec_capacity l.active;
-  rest : activated l.active.items l.place (drop l.range-index l.ranges) ≡ activated l.initial.active.items l.place l.ranges;
+  rest : activated l.active.items l.depth (drop l.range-index l.ranges) ≡ activated l.initial.active.items l.depth l.ranges;
 }

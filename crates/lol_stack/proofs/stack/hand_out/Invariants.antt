@@ -10,5 +10,5 @@ abbrev pub invariant-loop-item : goal.invariant-loop-item
 invariant-loop-item g l =
     always_mut g.F.FnMut l.handler
     × ((last : _) → IsCalledAtEach (λ p x r q. goal.F-step g p x r q) l.handler (element_data_of (drain_rest l.item-iterator)) last
-    → IsCalledAtEach (λ p x r q. goal.F-step g p x r q) l.initial.handler (element_data_of (drop l.place l.fn.items.items)) last)
-    × (drain_left l.item-iterator ≡ with_items l.fn.items (take l.place l.fn.items.items))
+    → IsCalledAtEach (λ p x r q. goal.F-step g p x r q) l.initial.handler (element_data_of (drop l.depth l.fn.items.items)) last)
+    × (drain_left l.item-iterator ≡ with_items l.fn.items (take l.depth l.fn.items.items))

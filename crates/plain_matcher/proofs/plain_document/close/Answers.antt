@@ -21,13 +21,13 @@ pub returns-clause-closed : goal.returns-clause-closed
 returns-clause-closed c = λ events.
     let name = c.args.name.now in
     let found = ap (λ (es : List PlainElement). position (λ (e : PlainElement). same_name e.name.now name) es) (sym c.deref.ensures.value) ∙ sym c.in-Some.ensures.value in
-    c.in_ok-numbers.ensures ∙ ap (λ (es : List PlainElement). map (λ (e : PlainElement). e.number) (reverse (take (c.in-Some.place + 1) es))) c.deref-2.ensures.value
-    ∙ closes_inner name c.args.document.now events c.in-Some.place found
+    c.in_ok-numbers.ensures ∙ ap (λ (es : List PlainElement). map (λ (e : PlainElement). e.number) (reverse (take (c.in-Some.index + 1) es))) c.deref-2.ensures.value
+    ∙ closes_inner name c.args.document.now events c.in-Some.index found
 
 pub returns-clause-document : goal.returns-clause-document
 returns-clause-document c = λ events.
     let name = c.args.name.now in
     let d = c.args.document.now in
     let found = ap (λ (es : List PlainElement). position (λ (e : PlainElement). same_name e.name.now name) es) (sym c.deref.ensures.value) ∙ sym c.in-Some.ensures.value in
-    let outer = outer_stays name d events c.in-Some.place found c.remove_first.new.elements.items c.remove_first.ensures in
+    let outer = outer_stays name d events c.in-Some.index found c.remove_first.new.elements.items c.remove_first.ensures in
     λ i. record { events = events + 1; children = map child_shown d.children.items; open_elements = outer i }

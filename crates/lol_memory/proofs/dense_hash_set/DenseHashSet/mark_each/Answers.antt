@@ -15,8 +15,8 @@ loop-id-init c = record {
   also = subst (HasAlso c.args.self.now []) (sym c.self.view_is) (also_none c.args.self.now);
 }
 
-pub mark-requires-clause-place : goal.mark-requires-clause-place
-mark-requires-clause-place c =
+pub mark-requires-clause-number : goal.mark-requires-clause-number
+mark-requires-clause-number c =
     c.loop-id.invariant.room c.in-Some.id
     (next_is_held c.args.other.now c.into_iter-id-iterator.result (cc) c.loop-id.yielded _ c.loop-id.yielded_by _ _ c.in-Some.id c.in-Some.is c.next.ensures.steps)
 
@@ -26,7 +26,7 @@ loop-id-preserved c =
     let new = marked (words_of c.loop-id.self-inside.words) (words_of c.mark.new.self) c.in-Some.id before.trim (omega arith) c.mark.ensures.bits in record {
       trim = new.0;
       form = c.mark.ensures.form before.form;
-      room = λ q held. c.mark.ensures.places _ (before.room q held);
+      room = λ q held. c.mark.ensures.numbers _ (before.room q held);
       also = subst (HasAlso c.args.self.now _) (sym new.1) (also_more c.args.self.now _ c.loop-id.yielded c.in-Some.id before.also);
     }
 

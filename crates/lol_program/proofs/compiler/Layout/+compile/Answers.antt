@@ -47,7 +47,7 @@ compile_node-returns-clause-laid t c =
     let x = out-AstNode c.args.node.now in
     let children : forest_of c.deref_mut.result.now ≡ forest_of x.children.items = ap forest_of c.deref_mut.ensures.value ∙ children_kept _ in
     let descendants : forest_of c.deref_mut-2.result.now ≡ forest_of x.descendants.items = ap forest_of c.deref_mut-2.ensures.value ∙ (descendants_kept _ ∙ descendants_kept _) in
-    let place = c.args.place in
+    let address = c.args.address in
     let free = c.args.self.now.free_space_start in
     let start = c.place_node.new.self.free_space_start in
     let middle = c.compile_list.new.self.free_space_start in
@@ -56,14 +56,14 @@ compile_node-returns-clause-laid t c =
     let placed = c.place_node.new.self.instructions.items in
     let first = c.compile_list.new.self.instructions.items in
     let second = c.compile_list-2.new.self.instructions.items in
-    let there : place < length old = omega (arith, c.requires.room, c.requires.place) in
-    let within : place < length second = omega (arith, there, a.same.count, b.same.count, ap length p.placed.is, length-set old place p.placed.instruction) in
-    let stays = placed_stays place start middle more old placed first second p.placed.instruction p.placed.is there (omega (arith, c.requires.place, p.free)) (omega (arith, a.free)) a.same b.same in
+    let there : address < length old = omega (arith, c.requires.room, c.requires.address) in
+    let within : address < length second = omega (arith, there, a.same.count, b.same.count, ap length p.placed.is, length-set old address p.placed.instruction) in
+    let stays = placed_stays address start middle more old placed first second p.placed.instruction p.placed.is there (omega (arith, c.requires.address, p.free)) (omega (arith, a.free)) a.same b.same in
     let kept = done.kept p.placed.instruction stays in
-    subst (λ (m : Node). AreLaid c.set_jumps.new.self.instructions.items place free (link m none)) (sym (node_out c.args.node.now))
-    (subst (λ (is : List code.Instruction). AreLaid is place free (link (shape x) none)) (sym done.is)
-    (node_done (shape x) place free start middle more first second done.instruction
-    p.free (subst (λ (f : Forest). middle ≡ start + size f) children a.free) (subst (λ (f : Forest). more ≡ middle + size f) descendants b.free) c.requires.place within
+    subst (λ (m : Node). AreLaid c.set_jumps.new.self.instructions.items address free (link m none)) (sym (node_out c.args.node.now))
+    (subst (λ (is : List code.Instruction). AreLaid is address free (link (shape x) none)) (sym done.is)
+    (node_done (shape x) address free start middle more first second done.instruction
+    p.free (subst (λ (f : Forest). middle ≡ start + size f) children a.free) (subst (λ (f : Forest). more ≡ middle + size f) descendants b.free) c.requires.address within
     (subst (λ (f : Forest). AreLaid first start (start + width f) f) children a.laid) (subst (λ (f : Forest). AreLaid second middle (middle + width f) f) descendants b.laid) b.same
     (subst (λ (q : CompiledPredicate). AreCompiledTests (tests_in q) (tests_of x.predicate)) (sym kept.0) p.placed.tests_are)
     (ap (λ (q : CompiledPredicate). map compiled_key_test (tests_in q)) kept.0 ∙ p.placed.keys_are)
@@ -77,7 +77,7 @@ compile_node-returns-clause-same t c =
     let b = c.in_ok-hereditary_jumps.ensures in
     let p = c.in_ok-place_node.ensures in
     let done = c.set_jumps.ensures.jumps in
-    let place = c.args.place in
+    let address = c.args.address in
     let free = c.args.self.now.free_space_start in
     let start = c.place_node.new.self.free_space_start in
     let middle = c.compile_list.new.self.free_space_start in
@@ -85,12 +85,12 @@ compile_node-returns-clause-same t c =
     let old = c.args.self.now.instructions.items in
     let placed = c.place_node.new.self.instructions.items in
     let second = c.compile_list-2.new.self.instructions.items in
-    let before : place < start = omega (arith, c.requires.place, p.free) in
-    let same = node_same place start middle more placed c.compile_list.new.self.instructions.items second done.instruction before (omega (arith, a.free)) (omega (arith, b.free)) a.same b.same in
-    let all = placed_same place start more old placed (slice_set second place done.instruction) p.placed.instruction p.placed.is before (omega (arith, a.free, b.free)) same in
-    subst (λ low. SameElsewhere place low c.set_jumps.new.self.free_space_start old c.set_jumps.new.self.instructions.items) p.free
-    (subst (λ high. SameElsewhere place start high old c.set_jumps.new.self.instructions.items) (sym c.set_jumps.ensures.free)
-    (subst (λ (is : List code.Instruction). SameElsewhere place start more old is) (sym done.is) all))
+    let before : address < start = omega (arith, c.requires.address, p.free) in
+    let same = node_same address start middle more placed c.compile_list.new.self.instructions.items second done.instruction before (omega (arith, a.free)) (omega (arith, b.free)) a.same b.same in
+    let all = placed_same address start more old placed (slice_set second address done.instruction) p.placed.instruction p.placed.is before (omega (arith, a.free, b.free)) same in
+    subst (λ low. SameElsewhere address low c.set_jumps.new.self.free_space_start old c.set_jumps.new.self.instructions.items) p.free
+    (subst (λ high. SameElsewhere address start high old c.set_jumps.new.self.instructions.items) (sym c.set_jumps.ensures.free)
+    (subst (λ (is : List code.Instruction). SameElsewhere address start more old is) (sym done.is) all))
 
 pub compile_node-returns-clause-free : goal.compile_node-returns-clause-free
 compile_node-returns-clause-free t c =
@@ -142,7 +142,7 @@ compile_nodes-loop-node-preserved t c =
     let old = c.args.self.now.instructions.items in
     let instructions = c.loop-node.self.instructions.items in
     let next = c.compile_node.new.self.instructions.items in
-    let place = c.loop-node.place in
+    let address = c.loop-node.address in
     let free = c.loop-node.self.free_space_start in
     let done = c.in_ok-compile_node.ensures in
     let flag = c.loop-node.self.enable_nth_of_type in
@@ -156,12 +156,12 @@ compile_nodes-loop-node-preserved t c =
     let rest : drop (i + 1) nodes ≡ left = drop_more_same nodes c.args.nodes.now i c.loop-node.invariant.as_before in
     let here : drop i c.args.nodes.now ≡ node ∷ left =
     sym c.loop-node.invariant.as_before ∙ (drop_more nodes i c.node-item.result within ∙ λ j. node ∷ rest j) in
-    let h = subst (λ (ns : List AstNode). IsHalfLaid f start end old (forest_of ns) place free instructions) here c.loop-node.invariant.half in
+    let h = subst (λ (ns : List AstNode). IsHalfLaid f start end old (forest_of ns) address free instructions) here c.loop-node.invariant.half in
     record {
       as_before = drop-set-lt (i + 1) nodes i c.compile_node.new.node (omega arith) ∙ rest;
       by_type = flag_more flag c.compile_node.new.self.enable_nth_of_type own (any_by_type (forest_of left)) _ (done.by_type ∙ ap (λ (b : Bool). flag || b) (or-false own))
           (ap (λ (ns : List AstNode). flag || any_by_type (forest_of ns)) (sym here) ∙ c.loop-node.invariant.by_type);
-      half = half_step f start end old n (forest_of left) place free c.compile_node.new.self.free_space_start instructions next h done.same done.free done.laid;
+      half = half_step f start end old n (forest_of left) address free c.compile_node.new.self.free_space_start instructions next h done.same done.free done.laid;
     }
 
 pub compile_nodes-returns-clause-laid : goal.compile_nodes-returns-clause-laid
@@ -171,5 +171,5 @@ compile_nodes-returns-clause-laid t c =
     let end = start + length c.args.nodes.now in
     let old = c.args.self.now.instructions.items in
     let nothing : drop c.loop-node.node-index c.args.nodes.now ≡ [] = drop_all c.loop-node.node-index c.args.nodes.now (omega (arith, c.loop-node-test.false, c.loop-node.auto.nodes)) in
-    let half = subst (λ (ns : List AstNode). IsHalfLaid f start end old (forest_of ns) c.loop-node.place c.loop-node.self.free_space_start c.loop-node.self.instructions.items) nothing c.loop-node.invariant.half in
-    half_done f start end old c.loop-node.place c.loop-node.self.free_space_start c.loop-node.self.instructions.items half
+    let half = subst (λ (ns : List AstNode). IsHalfLaid f start end old (forest_of ns) c.loop-node.address c.loop-node.self.free_space_start c.loop-node.self.instructions.items) nothing c.loop-node.invariant.half in
+    half_done f start end old c.loop-node.address c.loop-node.self.free_space_start c.loop-node.self.instructions.items half

@@ -18,5 +18,5 @@ abbrev pub invariant-compile_nodes-loop-node : goal.invariant-compile_nodes-loop
 invariant-compile_nodes-loop-node l = record {
   as_before : drop l.node-index l.nodes ≡ drop l.node-index l.fn.nodes;
   by_type : (l.self.enable_nth_of_type || any_by_type (forest_of (drop l.node-index l.fn.nodes))) ≡ (l.fn.self.enable_nth_of_type || any_by_type (forest_of l.fn.nodes));
-  half : IsHalfLaid (forest_of l.fn.nodes) l.fn.self.free_space_start (l.fn.self.free_space_start + length l.fn.nodes) l.fn.self.instructions.items (forest_of (drop l.node-index l.fn.nodes)) l.place l.self.free_space_start l.self.instructions.items;
+  half : IsHalfLaid (forest_of l.fn.nodes) l.fn.self.free_space_start (l.fn.self.free_space_start + length l.fn.nodes) l.fn.self.instructions.items (forest_of (drop l.node-index l.fn.nodes)) l.address l.self.free_space_start l.self.instructions.items;
 }

@@ -15,7 +15,7 @@ use Rattle.lol_program.proofs.compiler.Layout.place_node.Goals as goal
 pub returns-clause-placed : goal.returns-clause-placed
 returns-clause-placed c = record {
   instruction = c.new-instruction.result;
-  is = ap (λ (v : Vec code.Instruction). slice_set v.items c.args.place c.new-instruction.result) c.compile_predicate.ensures.instructions;
+  is = ap (λ (v : Vec code.Instruction). slice_set v.items c.args.address c.new-instruction.result) c.compile_predicate.ensures.instructions;
   ids_are = ap (λ (given : ExecutionBranch). given.matched_ids) c.new-instruction.ensures.branch ∙ c.replace-matched_ids.ensures.value;
   tests_are =
       subst (λ (q : CompiledPredicate). AreCompiledTests (tests_in q) (tests_of c.args.predicate.now)) (sym c.new-instruction.ensures.predicate)

@@ -10,6 +10,6 @@ returns-clause-jumps c = record {
   jumps_are = refl;
   hereditary_are = refl;
   kept = λ i there.
-      let is = c.index_mut.ensures.value ∙ get_or_from_slice_get c.args.self.now.instructions.items c.args.place i c.index_mut.result.now there in
+      let is = c.index_mut.ensures.value ∙ get_or_from_slice_get c.args.self.now.instructions.items c.args.address i c.index_mut.result.now there in
       (ap (λ (i : code.Instruction). i.predicate) is, ap (λ (i : code.Instruction). i.associated_branch.matched_ids) is);
 }

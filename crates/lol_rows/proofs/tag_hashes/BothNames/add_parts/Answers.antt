@@ -13,14 +13,14 @@ pub loop-name-preserved : goal.loop-name-preserved
 loop-name-preserved c = record {
   within = omega (arith, at.1, next);
   kept = λ hash has. c.in_ok-add_parts_after-2.ensures.kept hash (c.in_ok-add_parts_after.ensures.kept hash (c.loop-name.invariant.kept hash has));
-  parts = λ a has. each a (next_attribute attributes place name value there valued a (subst (λ n. Contains (take n attributes) a) (sym next) has));
+  parts = λ a has. each a (next_attribute attributes index name value there valued a (subst (λ n. Contains (take n attributes) a) (sym next) has));
 }
   where
     attributes : List Attribute
     attributes = c.args.matcher.now.attributes
 
-    place : ℕ
-    place = c.loop-name.place
+    index : ℕ
+    index = c.loop-name.index
 
     name : List ℕ
     name = c.in-Some.name.now
@@ -28,19 +28,19 @@ loop-name-preserved c = record {
     value : List ℕ
     value = c.unwrap_or-value.result.now
 
-    next : place + 1 ≡ c.in-Some-checked_add.next
+    next : index + 1 ≡ c.in-Some-checked_add.next
     next = omega (arith, c.in-Some-checked_add.ensures.1)
 
-    there : name_there attributes place ≡ Some name
+    there : name_there attributes index ≡ Some name
     there = sym c.name_at.ensures ∙ ap option_copied c.in-Some.is
 
-    at : (a : Attribute) × (place < length attributes) × (a ≡ get_or attributes place a) × (a.name ≡ name)
-    at = attribute_at attributes place name there
+    at : (a : Attribute) × (index < length attributes) × (a ≡ get_or attributes index a) × (a.name ≡ name)
+    at = attribute_at attributes index name there
 
-    valued : option_map (λ (a : Attribute). unwrap_or a.value []) (slice_get attributes place) ≡ Some value
-    valued = value_is attributes place name c.value_at.result _ c.unwrap_or-value.result there c.value_at.ensures c.unwrap_or-value.ensures
+    valued : option_map (λ (a : Attribute). unwrap_or a.value []) (slice_get attributes index) ≡ Some value
+    valued = value_is attributes index name c.value_at.result _ c.unwrap_or-value.result there c.value_at.ensures c.unwrap_or-value.ensures
 
-    each : (a : Attribute) → Contains (take place attributes) a ⊎ ((a.name ≡ name) × (unwrap_or a.value [] ≡ value))
+    each : (a : Attribute) → Contains (take index attributes) a ⊎ ((a.name ≡ name) × (unwrap_or a.value [] ≡ value))
         → HoldsBothParts c.args.parted.now c.args.self.now.unnamed c.args.self.now.named c.add_parts_after-in-Some.new.hashes.items a
     each a (inl before) =
         both_kept c.args.parted.now c.args.self.now.unnamed c.args.self.now.named c.loop-name.hashes.items c.add_parts_after-in-Some.new.hashes.items a
@@ -62,4 +62,4 @@ pub returns-clause-parts : goal.returns-clause-parts
 returns-clause-parts c = λ a has.
     let attributes = c.args.matcher.now.attributes in
     c.loop-name.invariant.parts a
-    (subst (λ (l : List Attribute). Contains l a) (sym (take_all c.loop-name.place attributes (none_there attributes c.loop-name.place (sym c.name_at.ensures ∙ ap option_copied c.in_default.is)))) has)
+    (subst (λ (l : List Attribute). Contains l a) (sym (take_all c.loop-name.index attributes (none_there attributes c.loop-name.index (sym c.name_at.ensures ∙ ap option_copied c.in_default.is)))) has)

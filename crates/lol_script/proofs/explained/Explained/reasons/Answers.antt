@@ -8,7 +8,7 @@ use Rattle.lol_reasons.specs.Explanations as explanations
 use Rattle.lol_reasons.specs.Explanations.{added_by, pairs_added}
 use Rattle.lol_reasons.specs.Explanations.{reasons}
 use Rattle.lol_reasons.specs.Numbered.{reason_shown}
-use Rattle.lol_reasons.specs.ReasonLaws.{ids_of_reasons, place_of_added, place_of_reason}
+use Rattle.lol_reasons.specs.ReasonLaws.{ids_of_reasons, source_of_added, source_of_reason}
 use Rattle.lol_reasons.specs.declared.explainer.Reason.{Reason}
 use Rattle.lol_base.specs.LocalNames.{Name}
 use Rattle.lol_instructions.specs.Tests.{Element}
@@ -41,8 +41,8 @@ returns-then-is_empty-clause-told c = λ s numbered tag now explains inside.
     let unreported : report numbered s.esi e outer ≡ [] = none_mapped match_field (report numbered s.esi e outer) (sym inside.reported ∙ listed) in
     let numbers : matching_ids numbered.pairs e outer ≡ [] = none_mapped _ (matching_ids numbered.pairs e outer) unreported in
     let places = c.numbers_name_what_matches.ensures (texts_in s) numbered explains.items e outer in
-    let reasons_are : reasons added e outer ≡ [] = none_mapped place_of_reason (reasons added e outer)
-    (c.reasons_explain_reports.ensures.one added e outer ∙ (sym places ∙ ap (filter_map (slice_get (map place_of_added added))) numbers)) in
+    let reasons_are : reasons added e outer ≡ [] = none_mapped source_of_reason (reasons added e outer)
+    (c.reasons_explain_reports.ensures.one added e outer ∙ (sym places ∙ ap (filter_map (slice_get (map source_of_added added))) numbers)) in
     let pairs : pairs_added added ≡ pairs_in s = c.texts_add_pairs.ensures (texts_in s) in
     let same = subst (λ (ps : List (Path × ℕ)). SameMembers (pairs_in s) ps) (sym pairs) (λ x. (λ h. h, λ h. h)) in
     let law = c.reasons_explain_reports.ensures.report (selectors_in s) added same s.esi e outer in

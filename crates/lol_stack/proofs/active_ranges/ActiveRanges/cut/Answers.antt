@@ -4,5 +4,5 @@ use Rattle.lol_stack.proofs.active_ranges.ActiveRanges.cut.Goals as goal
 
 pub returns : goal.returns
 returns c =
-    filter_same _ (λ a. nat_lt a.1 c.args.place) _ (λ x b f' t. search (rules, t)) _ _ c.retain.ensures.filtered
-    ∙ ap (filter (λ a. nat_lt a.1 c.args.place)) c.self.view_is
+    filter_same _ (λ a. nat_lt a.1 c.args.depth) _ (λ x b f' t. search (rules, t)) _ _ c.retain.ensures.filtered
+    ∙ ap (filter (λ a. nat_lt a.1 c.args.depth)) c.self.view_is

@@ -1,8 +1,8 @@
 use Rattle.std.proofs.Common.{◌∙◌, ap, refl, take, length, rules}
 use Rattle.lol_base.specs.LocalNames.{same_local_name}
-use Rattle.lol_stack.specs.OpenPlaces.{places_of}
-use Rattle.lol_stack.specs.Stacks.{active_in, places_in}
-use Rattle.lol_stack.proofs.StackLists.{take-activated, place-undone}
+use Rattle.lol_stack.specs.OpenDepths.{depths_of}
+use Rattle.lol_stack.specs.Stacks.{active_in, depths_in}
+use Rattle.lol_stack.proofs.StackLists.{take-activated, depth-undone}
 use Rattle.lol_stack.proofs.stack.StackOf+LocalName+StackNames+E.push_item.Goals as goal
 
 pub returns-then-is_limited-clause-limited : goal.returns-then-is_limited-clause-limited
@@ -17,9 +17,9 @@ returns-in-Err-add-clause-err g c =
       active =
           c.truncate.ensures
           ∙ (ap (λ n. take n c.activate.new.self) c.len-active.ensures
-          ∙ (ap (take (length old)) c.in_default.ensures.ok ∙ take-activated old c.len-place.result c.as_slice-ranges.result.now));
+          ∙ (ap (take (length old)) c.in_default.ensures.ok ∙ take-activated old c.len-depth.result c.as_slice-ranges.result.now));
       typed = refl;
-      places = c.in-Err-add.ensures.err;
+      depths = c.in-Err-add.ensures.err;
     }
 
 pub returns-in-Err-push-clause-err : goal.returns-in-Err-push-clause-err
@@ -31,9 +31,9 @@ returns-in-Err-push-clause-err g c =
       active =
           c.truncate-in-Err-push.ensures
           ∙ (ap (λ n. take n c.activate.new.self) c.len-active.ensures
-          ∙ (ap (take (length old)) c.in_default.ensures.ok ∙ take-activated old c.len-place.result c.as_slice-ranges.result.now));
+          ∙ (ap (take (length old)) c.in_default.ensures.ok ∙ take-activated old c.len-depth.result c.as_slice-ranges.result.now));
       typed = refl;
-      places = λ q.
-          place-undone (same_local_name c.in-Ok.name q) (places_in c.args.self.now q) (places_of c.add.new.self q) (places_of c.remove.new.self q) c.len-place.result
+      depths = λ q.
+          depth-undone (same_local_name c.in-Ok.name q) (depths_in c.args.self.now q) (depths_of c.add.new.self q) (depths_of c.remove.new.self q) c.len-depth.result
           (c.in_default-add.ensures.ok q) (c.remove.ensures q);
     }

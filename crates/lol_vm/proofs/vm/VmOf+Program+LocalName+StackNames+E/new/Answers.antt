@@ -9,6 +9,6 @@ returns-clause-stands g c =
     let made = c.new-stack.ensures in
     let parts = c.with_parts.ensures in
     new_vm_stands c.args.ast c.in_ok-program.program c.new-stack.result c.with_parts.result c.args.enable_esi_tags c.args.item_bytes (c.in_ok-program.ensures.program (is_with_rows c.args.ast))
-    (record { items = made.items; root = made.root; active = made.active; typed = made.typed }) made.places parts.program parts.stack parts.enable_esi_tags parts.failed
+    (record { items = made.items; root = made.root; active = made.active; typed = made.typed }) made.depths parts.program parts.stack parts.enable_esi_tags parts.failed
     (subst (IsSparing (selectors c.args.ast) c.in_ok-program.program) (sym parts.space)
     (record { mode = c.in_ok-program.ensures.mode ∙ ap (λ b. b || is_with_rows c.args.ast) c.new.ensures.rows; rows = c.in_ok-program.ensures.rows; room = c.in_ok-space.ensures.room; size = c.in_ok-space.ensures.size }))

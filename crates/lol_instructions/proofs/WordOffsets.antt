@@ -58,7 +58,7 @@ module _ (case : CaseSensitivity) (value operand : List ℕ) where
 
   -- 2. How far the search has come
 
-  -- the words that end before a place are not the operand, and one begins before it
+  -- the words that end before an offset are not the operand, and one begins before it
   pub record Reached (at : ℕ) : Type 0 where
     pub start : ℕ
     pub begins : IsWordStart value start
@@ -76,10 +76,10 @@ module _ (case : CaseSensitivity) (value operand : List ℕ) where
       ⊎_elim
       (λ white.
       let differs = missed reached.start reached.begins reached.far.ordered reached.far.none (inr white) in
-      let place : at + 1 - 1 ≡ at = omega arith in
+      let offset : at + 1 - 1 ≡ at = omega arith in
       record {
         start = at + 1;
-        begins = inr (ap (λ (i : ℕ). is_white (get_or value i 0)) place ∙ white);
+        begins = inr (ap (λ (i : ℕ). is_white (get_or value i 0)) offset ∙ white);
         far = SoFar-next case value operand reached.start at reached.far within white differs;
       })
       (λ black. record { start = reached.start; begins = reached.begins; far = SoFar-more case value operand reached.start at reached.far black })
@@ -105,8 +105,8 @@ module _ (case : CaseSensitivity) (value operand : List ℕ) where
     word_letter start end ordered within same =
         let long = word_length start end ordered within same in
         let k = length operand - 1 in
-        let place : start + k ≡ end - 1 = omega arith in
-        let read : get_or (slice_range value start end) k 0 ≡ get_or value (end - 1) 0 = byte_of_slice value start end k within (omega arith) ∙ ap (λ (i : ℕ). get_or value i 0) place in
+        let offset : start + k ≡ end - 1 = omega arith in
+        let read : get_or (slice_range value start end) k 0 ≡ get_or value (end - 1) 0 = byte_of_slice value start end k within (omega arith) ∙ ap (λ (i : ℕ). get_or value i 0) offset in
         ap (is_letter_of case last) (sym read) ∙ letter_from_same case _ last (same_at case (slice_range value start end) operand same k (omega arith))
 
     pub IsMissed-init : IsMissed 0
@@ -116,15 +116,15 @@ module _ (case : CaseSensitivity) (value operand : List ℕ) where
     -- a word that ends after another byte is not the operand
     missed_after : (at : ℕ) → at < length value → is_letter_of case last (get_or value at 0) ≡ false → IsMissed (at + 1)
     missed_after at within other start begins ordered none ends =
-        let place : at + 1 - 1 ≡ at = omega arith in
+        let offset : at + 1 - 1 ≡ at = omega arith in
         ⊎_elim
         (λ same.
         let letter = word_letter start (at + 1) ordered (omega arith) same in
-        absurd (false≢true (sym other ∙ ap (λ (i : ℕ). is_letter_of case last (get_or value i 0)) (sym place) ∙ letter)))
+        absurd (false≢true (sym other ∙ ap (λ (i : ℕ). is_letter_of case last (get_or value i 0)) (sym offset) ∙ letter)))
         (λ no. no)
         (cases_Bool (value_holds Equal case (slice_range value start (at + 1)) operand))
 
-    -- up to the next place of the last byte
+    -- up to the next offset of the last byte
     Reached-skip : (count from : ℕ) → from + count ≤ length value → Reached from → IsMissed from → NoLetter case value last from (from + count) → Reached (from + count) × IsMissed (from + count)
     Reached-skip zero from within reached missed none = let same : from ≡ from + zero = omega arith in (subst Reached same reached, subst IsMissed same missed)
     Reached-skip (suc count) from within reached missed none =
@@ -141,7 +141,7 @@ module _ (case : CaseSensitivity) (value operand : List ℕ) where
         let there = Reached-skip (to - from) from (omega arith) reached missed (λ k low high. none k low (omega arith)) in
         (subst Reached same there.0, subst IsMissed same there.1)
 
-    -- the place after the next letter
+    -- the offset after the next letter
     pub Reached-letter : (from end : ℕ) → IsLetterEnd case value last from end → Reached from → IsMissed from → Reached end
     Reached-letter from end letter reached missed =
         let after = letter.after in
@@ -150,14 +150,14 @@ module _ (case : CaseSensitivity) (value operand : List ℕ) where
         let same : end - 1 + 1 ≡ end = omega arith in
         subst Reached same (Reached-step (end - 1) (omega arith) there.0 there.1)
 
-    -- no place of the last byte is left
+    -- no offset of the last byte is left
     pub missed_all : (from : ℕ) → from ≤ length value → Reached from → IsMissed from → NoLetter case value last from (length value) → value_holds Includes case value operand ≡ false
     missed_all from within reached missed none =
         let there = Reached-to from (length value) within (omega arith) reached missed none in
         let r = there.0 in
         sym (SoFar-end case value operand r.start (length value) r.far (omega arith) (omega arith)) ∙ there.1 r.start r.begins r.far.ordered r.far.none (inl refl)
 
-  -- 3. The operand found before a place
+  -- 3. The operand found before an offset
 
   module _ (black : list_any is_white operand ≡ false) where
     black_at : (k : ℕ) → k < length operand → is_white (get_or operand k 0) ≡ false
@@ -169,13 +169,13 @@ module _ (case : CaseSensitivity) (value operand : List ℕ) where
         let start = end - length operand in
         let fits = word.fits in
         let i = k - start in
-        let place : start + i ≡ k = omega arith in
+        let offset : start + i ≡ k = omega arith in
         let below : i < length operand = omega arith in
-        ap (λ (j : ℕ). is_white (get_or value j 0)) (sym place)
+        ap (λ (j : ℕ). is_white (get_or value j 0)) (sym offset)
         ∙ ap is_white (sym (byte_of_slice value start end i within (omega arith)))
         ∙ white_from_same case _ _ (same_at case (slice_range value start end) operand word.same i below) ∙ black_at i below
 
-    -- of two starts of a word that ends at a place none is before the other
+    -- of two starts of a word that ends at an offset none is before the other
     not_before : (start other end : ℕ) → IsWordStart value other → start < other → other ≤ end → ¬ NoWhite value start end
     not_before start other end (inl zero_there) before ordered none = absurd (omega arith)
     not_before start other end (inr white) before ordered none = absurd (false≢true (sym (none (other - 1) (omega arith) (omega arith)) ∙ white))
@@ -205,7 +205,7 @@ module _ (case : CaseSensitivity) (value operand : List ℕ) where
 
 -- 4. The search
 
--- no word that ends up to a place is the operand
+-- no word that ends up to an offset is the operand
 pub record IsSearched (case : CaseSensitivity) (value operand : List ℕ) (at : ℕ) : Type 0 where
   pub within : at ≤ length value
   pub reached : Reached case value operand at

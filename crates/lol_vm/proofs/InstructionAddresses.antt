@@ -1,5 +1,5 @@
--- Instructions by their places.
-use Rattle.lol_vm.proofs.Common.{◌≡◌, ℕ, zero, suc, ◌+◌, ◌-◌, ◌≤◌, Bool, List, [], ◌∷◌, ◌++◌, length, map, take, drop, Option, Some, inl, inr, refl, sym, ap, ◌∙◌, subst, arith, All, slice_get, count_by, range_with_len, position_from, Range, map-append, map-map, length-map, Among, contains_from_among, within_at, Ids, tag_attributes, Sight, sight_of, is_open, places, all_places, Element, Gathers, Context, instruction_holds, instruction_value, is_open_at, branch, give_if_there, given_by_names, given_with_attributes, run, IsInsideOf, instructions_at, all_at, value_seen, holds_seen, open_among, first_open_from, give_branch, gathered_by_names, gathered_with_attributes, ExecutionCtx}
+-- Instructions by their addresses.
+use Rattle.lol_vm.proofs.Common.{◌≡◌, ℕ, zero, suc, ◌+◌, ◌-◌, ◌≤◌, Bool, List, [], ◌∷◌, ◌++◌, length, map, take, drop, Option, Some, inl, inr, refl, sym, ap, ◌∙◌, subst, arith, All, slice_get, count_by, range_with_len, position_from, Range, map-append, map-map, length-map, Among, contains_from_among, within_at, Ids, tag_attributes, Sight, sight_of, is_open, addresses, all_addresses, Element, Gathers, Context, instruction_holds, instruction_value, is_open_at, branch, give_if_there, given_by_names, given_with_attributes, run, IsInsideOf, instructions_at, all_at, value_seen, holds_seen, open_among, first_open_from, give_branch, gathered_by_names, gathered_with_attributes, ExecutionCtx}
 use Rattle.std.specs.List.{drop-map, take-map}
 use Rattle.lol_program.specs.Programs as programs
 use Rattle.lol_program.specs.Programs.{Program}
@@ -11,7 +11,7 @@ use Rattle.lol_vm.proofs.OutcomeLemmas.{attributes-map, attributes_keep, count_b
 use Rattle.lol_vm.proofs.Stops.{context_by_names}
 use Rattle.std.proofs.lemmas.List.Elements.{All-contains}
 
--- 1. What stands at the places of ranges
+-- 1. What stands at the addresses of ranges
 
 dropped_at : {A : Type 0} (ys : List A) (a : ℕ) (y : A) → slice_get ys a ≡ Some y → drop a ys ≡ y ∷ drop (suc a) ys
 dropped_at [] a y at = cc
@@ -26,7 +26,7 @@ at_range ys a (suc n) within =
     (λ i. y.1 i ∷ at_range ys (a + 1) n (omega (arith, within)) i)
     ∙ (ap (λ k. Some y.0 ∷ map Some (take n (drop k ys))) (sym next) ∙ sym (ap (λ zs. map Some (take (suc n) zs)) (dropped_at ys a y.0 y.1)))
 
--- 2. Runs over the places of ranges are runs over their instructions
+-- 2. Runs over the addresses of ranges are runs over their instructions
 
 module _ (prog : code.Program) where
   abbrev p : Program
@@ -38,22 +38,22 @@ module _ (prog : code.Program) where
   abbrev shown : Instruction → programs.Instruction
   shown i = instruction_shown p.by_type i
 
-  at_one : (r : Range ℕ) → IsInsideOf instructions r → map (slice_get p.instructions) (places r) ≡ map (λ i. Some (shown i)) (instructions_at instructions r)
+  at_one : (r : Range ℕ) → IsInsideOf instructions r → map (slice_get p.instructions) (addresses r) ≡ map (λ i. Some (shown i)) (instructions_at instructions r)
   at_one r inside =
       let count = length-map instructions shown in
       at_range p.instructions r.start (r.end - r.start) (omega (arith, inside.0, inside.1, count))
       ∙ (ap (λ xs. map Some (take (r.end - r.start) xs)) (drop-map shown r.start instructions)
       ∙ (ap (map Some) (take-map shown (r.end - r.start) (drop r.start instructions)) ∙ map-map Some shown (take (r.end - r.start) (drop r.start instructions))))
 
-  at_all : (ranges : List (Range ℕ)) → ((r : Range ℕ) → Among ranges r → IsInsideOf instructions r) → map (slice_get p.instructions) (all_places ranges) ≡ map (λ i. Some (shown i)) (all_at instructions ranges)
+  at_all : (ranges : List (Range ℕ)) → ((r : Range ℕ) → Among ranges r → IsInsideOf instructions r) → map (slice_get p.instructions) (all_addresses ranges) ≡ map (λ i. Some (shown i)) (all_at instructions ranges)
   at_all [] inside = refl
   at_all (r ∷ ranges) inside =
-      map-append (slice_get p.instructions) (places r) (all_places ranges)
+      map-append (slice_get p.instructions) (addresses r) (all_addresses ranges)
       ∙ ((λ i. at_one r (inside r (inl refl)) i ++ at_all ranges (λ q a. inside q (inr a)) i) ∙ sym (map-append (λ i. Some (shown i)) (instructions_at instructions r) (all_at instructions ranges)))
 
   module _ (e : Element) (ranges : List (Range ℕ)) (inside : All (IsInsideOf instructions) ranges) where
     abbrev ps : List ℕ
-    ps = all_places ranges
+    ps = all_addresses ranges
 
     abbrev is : List Instruction
     is = all_at instructions ranges
@@ -77,7 +77,7 @@ module _ (prog : code.Program) where
     pub same_opens : open_among s is ≡ count_by (is_open_at p e) ps
     same_opens = sym (count_by-map (λ i. Some (shown i)) is_open_one is) ∙ (sym (ap (count_by is_open_one) at) ∙ count_by-map (slice_get p.instructions) is_open_one ps)
 
-    -- what is gathered with attributes, and what by names up to a stop, is what the places give
+    -- what is gathered with attributes, and what by names up to a stop, is what the addresses give
     module _ {E : Type 0} (ids_of : E → Ids) (with_ids : E → Ids → E) (keeps : (e : E) (w : Ids) → ids_of (with_ids e w) ≡ w) (content : Bool) where
       abbrev Alike : ExecutionCtx E → Context → Type 0
       Alike ctx context = Gathers ids_of ctx.stack_item context × (ctx.with_content ≡ content)

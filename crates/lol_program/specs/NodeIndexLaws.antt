@@ -1,4 +1,4 @@
--- What `==` of an index is.
+-- What `==` of a node index is.
 use Rattle.std.proofs.Common.{Bool, true, refl}
 use Rattle.std.specs.Cmp.{IsEquivalence}
 

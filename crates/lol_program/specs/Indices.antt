@@ -5,7 +5,7 @@ use Rattle.lol_program.specs.Forest.{Node}
 use Rattle.lol_program.specs.Growth.{fresh}
 
 -- the first node with a compound stands at i
-pub record IsPlace (c : Compound) (nodes : List Node) (i : ℕ) : Type 0 where
+pub record IsIndex (c : Compound) (nodes : List Node) (i : ℕ) : Type 0 where
   pub within : i < length nodes
   pub here : (d : Node) → (get_or nodes i d).compound ≡ c
   pub before : (k : ℕ) (d : Node) → k < i → (get_or nodes k d).compound ≢ c
@@ -15,6 +15,6 @@ abbrev pub IsNowhere : Compound → List Node → Type 0
 IsNowhere c nodes = (k : ℕ) (d : Node) → k < length nodes → (get_or nodes k d).compound ≢ c
 
 -- It stands at i, in the old list or as a new last node.
-abbrev pub HasPlace : Compound → List Node → List Node → ℕ → Type 0
-HasPlace c old new i =
-    ((new ≡ old) × IsPlace c old i) ⊎ ((new ≡ old ++ fresh c ∷ []) × (i ≡ length old) × IsNowhere c old)
+abbrev pub HasIndex : Compound → List Node → List Node → ℕ → Type 0
+HasIndex c old new i =
+    ((new ≡ old) × IsIndex c old i) ⊎ ((new ≡ old ++ fresh c ∷ []) × (i ≡ length old) × IsNowhere c old)

@@ -1,4 +1,4 @@
--- What the places of a program give, run for a start tag.
+-- What the addresses of a program give, run for a start tag.
 use Rattle.std.specs.Prelude.{ℕ, Bool, false, if◌then◌else◌, List, [], ◌++◌, map, flat_map, slice_get, Option, Some, None, option_to_list, ◌≡◌, ◌↔◌, true, Contains}
 use Rattle.std.specs.declared.ops.Range.{Range}
 use Rattle.lol_instructions.specs.Tests.{Element}
@@ -10,7 +10,7 @@ use Rattle.lol_memory.specs.Ids.{Ids, has}
 use Rattle.lol_stack.specs.declared.stack_item.StackItemOf.{StackItemOf}
 use Rattle.lol_vm.specs.Outcomes.{given_with_attributes}
 
--- 1. What all places give
+-- 1. What all addresses give
 
 -- What a start tag has gathered: ids, and ranges for the elements inside.
 pub record Context : Type 0 where
@@ -21,13 +21,13 @@ pub record Context : Type 0 where
 abbrev pub no_context : Context
 no_context = record { ids = []; jumps = []; hereditary_jumps = [] }
 
--- what the instruction at a place gives, where it holds
+-- what the instruction at an address gives, where it holds
 abbrev pub given_by : {A : Type 0} → (Instruction → List A) → Element → Option Instruction → List A
 given_by what e None = []
 given_by what e (Some i) = if i.holds e then what i else []
 
-abbrev pub gathered_from_places : {A : Type 0} → (Instruction → List A) → Program → Element → List ℕ → List A
-gathered_from_places what p e ps = flat_map (λ place. given_by what e (slice_get p.instructions place)) ps
+abbrev pub gathered_from_addresses : {A : Type 0} → (Instruction → List A) → Program → Element → List ℕ → List A
+gathered_from_addresses what p e ps = flat_map (λ address. given_by what e (slice_get p.instructions address)) ps
 
 abbrev pub ids_list : Instruction → List ℕ
 ids_list i = i.ids
@@ -38,16 +38,16 @@ jumps_list i = option_to_list i.jumps
 abbrev pub hereditary_jumps_list : Instruction → List (Range ℕ)
 hereditary_jumps_list i = option_to_list i.hereditary_jumps
 
--- What is gathered from places, in their order; ranges only for an element with content.
+-- What is gathered from addresses, in their order; ranges only for an element with content.
 abbrev pub context_of : Program → Bool → Element → List ℕ → Context
 context_of p content e ps =
     record {
-      ids = gathered_from_places ids_list p e ps;
-      jumps = if content then gathered_from_places jumps_list p e ps else [];
-      hereditary_jumps = if content then gathered_from_places hereditary_jumps_list p e ps else [];
+      ids = gathered_from_addresses ids_list p e ps;
+      jumps = if content then gathered_from_addresses jumps_list p e ps else [];
+      hereditary_jumps = if content then gathered_from_addresses hereditary_jumps_list p e ps else [];
     }
 
--- 2. Place by place
+-- 2. Address by address
 
 abbrev pub branch : Bool → Context → Instruction → Context
 branch content context i =
@@ -65,24 +65,24 @@ abbrev pub instruction_holds : Element → Option Instruction → Bool
 instruction_holds e None = false
 instruction_holds e (Some i) = i.holds e
 
--- the instructions at places
-abbrev pub at_places : Program → List ℕ → List (Option Instruction)
-at_places p ps = map (slice_get p.instructions) ps
+-- the instructions at addresses
+abbrev pub at_addresses : Program → List ℕ → List (Option Instruction)
+at_addresses p ps = map (slice_get p.instructions) ps
 
--- Runs places with attributes.
+-- Runs addresses with attributes.
 abbrev pub run : Program → Bool → Element → Context → List ℕ → Context
-run p content e context ps = given_with_attributes (give_if_there content) (instruction_holds e) context (at_places p ps)
+run p content e context ps = given_with_attributes (give_if_there content) (instruction_holds e) context (at_addresses p ps)
 
 abbrev pub instruction_value : Element → Option Instruction → NameValue
 instruction_value e None = False
 instruction_value e (Some i) = i.value e
 
--- the value by names of the instruction at a place
+-- the value by names of the instruction at an address
 abbrev pub value_at : Program → Element → ℕ → NameValue
-value_at p e place = instruction_value e (slice_get p.instructions place)
+value_at p e address = instruction_value e (slice_get p.instructions address)
 
 abbrev pub is_open_at : Program → Element → ℕ → Bool
-is_open_at p e place = is_open (value_at p e place)
+is_open_at p e address = is_open (value_at p e address)
 
 -- 3. When the element of a start tag has that
 

@@ -1,7 +1,7 @@
 use Rattle.lol_program.specs.Views.{tests_of_compound}
 use Rattle.std.proofs.Common.{refl, sym, ◌∙◌, true≢false}
 use Rattle.lol_program.specs.NodeViewLaws.{none_before}
-use Rattle.lol_program.proofs.node_index.first_place_of.Goals as goal
+use Rattle.lol_program.proofs.node_index.first_index_of.Goals as goal
 
 pub loop-i-preserved : goal.loop-i-preserved
 loop-i-preserved c =
