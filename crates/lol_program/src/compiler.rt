@@ -231,7 +231,8 @@ impl Layout {
         hereditary_jumps: Option<AddressRange>,
     )
         requires { address < length self.old.instructions.items }
-        ensures jumps { HasJumps address jumps hereditary_jumps self.old.instructions.items self.new.instructions.items }
+        ensures jumps { HasJumps address jumps hereditary_jumps self.old.instructions.items
+            self.new.instructions.items }
         ensures by_type { self.new.enable_nth_of_type ≡ self.old.enable_nth_of_type }
         ensures free { self.new.free_space_start ≡ self.old.free_space_start }
     {
