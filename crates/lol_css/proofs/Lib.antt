@@ -9,5 +9,5 @@ pub mod Fusing
 pub mod Accepts
 pub mod Fewer
 pub mod Places
-pub mod Locating
+pub mod LocatingLemmas
 pub mod Located

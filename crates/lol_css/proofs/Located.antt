@@ -17,7 +17,7 @@ use Rattle.lol_css.specs.Judging.{Judged, with_item, judged_items_at_most}
 use Rattle.lol_css.specs.Locating.{outer_item, items_after, outer_items_at_most, outer_items, early, late, first_refused, refused_token, offsets_after, point_offsets, token_offset, error_location}
 use Rattle.lol_css.specs.declared.error.ErrorLocation.{ErrorLocation}
 use Rattle.lol_css.proofs.Fusing.{list-starts}
-use Rattle.lol_css.proofs.Locating.{early_is, late_is, outer_items-unfold, items_enough}
+use Rattle.lol_css.proofs.LocatingLemmas.{early_is, late_is, outer_items-unfold, items_enough}
 
 -- ---- tests
 

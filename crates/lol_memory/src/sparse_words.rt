@@ -77,7 +77,8 @@ pub(crate) fn scatter(
     requires held { last.bits ≢ 0 }
     ensures sparse { IfOk result (λ sparse. IsSparse sparse.items) }
     ensures last { IfOk result (λ sparse. word_at sparse.items last.number ≡ last.bits) }
-    ensures same { IfOk result (λ sparse. (j : ℕ) → j ≢ last.number → word_at sparse.items j ≡ get_or words.now j 0) }
+    ensures same { IfOk result (λ sparse. (j : ℕ) → j ≢ last.number
+        → word_at sparse.items j ≡ get_or words.now j 0) }
     ensures count { IfOk result (λ sparse. length (all_words sparse.items) ≡ last.number + 1) }
 {
     let mut sparse = placed(words, alloc)?;

@@ -1,5 +1,5 @@
 pub mod NameOrder
-pub mod NameBlocks
+pub mod NameBlockLemmas
 pub mod NameChanges
-pub mod NameMaps
+pub mod NameMapLemmas
 pub mod Refusals

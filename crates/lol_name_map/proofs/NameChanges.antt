@@ -13,7 +13,7 @@ use Rattle.lol_base.specs.LocalNames.{Name, same_local_name, local_name_cmp}
 use Rattle.lol_name_map.specs.NameBlocks.{joined_blocks, block_at, AllFilled, AllBelow, AllAbove, AreAscending, AreBlocks, before, from, StandsInBlocks, IsPutAt, IsSamePlace}
 use Rattle.lol_name_map.specs.declared.name_blocks.BlockPlace.{BlockPlace}
 use Rattle.lol_name_map.proofs.NameOrder.{ascending-below, ascending-above, ascending-without, ascending-with, found-with, found-missing, same-alike, same-flip, same-tested, all_above-same, all_below-same}
-use Rattle.lol_name_map.proofs.NameBlocks.{block_is, append-assoc, joined-append, split-at, take-drop, filled-set}
+use Rattle.lol_name_map.proofs.NameBlockLemmas.{block_is, append-assoc, joined-append, split-at, take-drop, filled-set}
 
 -- 1. A list of lists, as the ones before a place, the one there, and the ones after it
 

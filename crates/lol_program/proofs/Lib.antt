@@ -16,5 +16,5 @@ pub mod ListIndices
 pub mod Apart
 pub mod ByType
 pub mod Laid
-pub mod Laying
+pub mod LayingLemmas
 pub mod Filled

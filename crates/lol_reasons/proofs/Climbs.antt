@@ -18,8 +18,8 @@ use Rattle.lol_reasons.specs.Climbing.{StandsUnder, reached_by}
 use Rattle.lol_reasons.specs.Matched.{HasMatched}
 use Rattle.lol_reasons.specs.Witnesses.{innermost_witness, known_witness, step_gives}
 use Rattle.lol_reasons.specs.declared.witness.NodeAbove.{NodeAbove}
-use Rattle.lol_reasons.proofs.Witnesses.{innermost_is_known}
-use Rattle.lol_reasons.proofs.Climbing.{Reached, nearest_reached, same_lengths}
+use Rattle.lol_reasons.proofs.WitnessLemmas.{innermost_is_known}
+use Rattle.lol_reasons.proofs.ClimbingLemmas.{Reached, nearest_reached, same_lengths}
 
 -- 1. Lists whose last items come first
 

@@ -1,6 +1,6 @@
-mod Witnesses
+mod WitnessLemmas
 mod Reasons
-mod Climbing
+mod ClimbingLemmas
 mod Climbs
 mod Nodes
 mod Around

@@ -8,7 +8,7 @@ use Rattle.lol_vm.specs.Matching.{matches}
 use Rattle.lol_reasons.specs.Explanations.{Added, added_by}
 use Rattle.lol_reasons.specs.NumberingLaws.{NumbersNameWhatMatches}
 use Rattle.lol_reasons.specs.ReasonLaws.{source_of_added}
-use Rattle.lol_reasons.proofs.Climbing.{at_map}
+use Rattle.lol_reasons.proofs.ClimbingLemmas.{at_map}
 use Rattle.lol_reasons.proofs.Numbers.{matched_from}
 use Rattle.lol_reasons.proofs.Telling.{matched_are}
 

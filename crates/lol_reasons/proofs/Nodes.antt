@@ -13,7 +13,7 @@ use Rattle.lol_program.specs.ProgramViews.{instruction_shown, program_shown}
 use Rattle.lol_program.specs.declared.program.Program as program
 use Rattle.lol_reasons.specs.Climbing.{has_number, node_with_from}
 use Rattle.lol_reasons.specs.Matched.{IsAlone}
-use Rattle.lol_reasons.proofs.Climbing.{among_at, at_map, map_at}
+use Rattle.lol_reasons.proofs.ClimbingLemmas.{among_at, at_map, map_at}
 
 pub among_if : (ns : List ℕ) (n : ℕ) → has_number ns n ≡ true → Among ns n
 among_if [] n h = cc

@@ -19,7 +19,7 @@ use Rattle.lol_vm.specs.ReportLaws.{matching_ids-same}
 use Rattle.lol_reasons.specs.Witnesses.{innermost_witness}
 use Rattle.lol_reasons.specs.Explanations.{Text, Added, added_items, added_from, pairs_added, Reason, reason_by, reasons, reasons_at, explanations_from}
 use Rattle.lol_reasons.specs.ReasonLaws.{PairsAreAdded, ReasonsGiveReport, EachHasOneReason, ReasonsAreExact, IsReasonOf, ids_of_reasons, source_of_reason, source_of_added, RunsAreExplained, ReasonsStay, ids_reported}
-use Rattle.lol_reasons.proofs.Witnesses.{innermost_where_matches}
+use Rattle.lol_reasons.proofs.WitnessLemmas.{innermost_where_matches}
 
 -- 1. Pairs
 

@@ -23,9 +23,9 @@ use Rattle.lol_reasons.specs.Numbered.{HasItemsOf, item_shown as text_item, numb
 use Rattle.lol_reasons.specs.Witnesses.{innermost_witness}
 use Rattle.lol_reasons.specs.ReasonLaws.{source_of_added}
 use Rattle.lol_reasons.specs.declared.explainer.ItemOfText.{ItemOfText}
-use Rattle.lol_reasons.proofs.Climbing.{at_map, same_lengths}
+use Rattle.lol_reasons.proofs.ClimbingLemmas.{at_map, same_lengths}
 use Rattle.lol_reasons.proofs.Numbers.{matched_are_ids, matched_at, matched_from, each_told, numbered_at, at_numbered}
-use Rattle.lol_reasons.proofs.Witnesses.{innermost_where_matches}
+use Rattle.lol_reasons.proofs.WitnessLemmas.{innermost_where_matches}
 
 -- 1. The item under a number
 

@@ -6,7 +6,7 @@ pub mod Numbers
 pub mod Outlines
 pub mod ReadOn
 pub mod Reasons
-pub mod Scripts
-pub mod SelectLines
+pub mod ScriptLemmas
+pub mod SelectLineLemmas
 pub mod Told
 pub mod WithReasons

@@ -1,4 +1,4 @@
-mod Spans
+mod SpanLemmas
 pub mod NameMaps
 pub mod Refusals
 pub mod StackLists

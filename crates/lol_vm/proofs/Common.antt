@@ -1,14 +1,14 @@
 -- What most proofs of this crate speak of.
-pub use Rattle.lol_base.specs.BoolLaws.{and-false, and-true, and_of, and_parts, not_true, or-right_true, or_of, or_parts, same_bool}
-pub use Rattle.lol_base.specs.AscendingLaws.{among_ascending, ascending_among, ascending_ascends, ascending_is_determined, pairs_from_ascends}
 pub use Rattle.lol_base.specs.Ascending.{ascending_once}
+pub use Rattle.lol_base.specs.AscendingLaws.{among_ascending, ascending_among, ascending_ascends, ascending_is_determined, pairs_from_ascends}
+pub use Rattle.lol_base.specs.BoolLaws.{and-false, and-true, and_of, and_parts, not_true, or-right_true, or_of, or_parts, same_bool}
 pub use Rattle.lol_base.specs.LocalNames.{Name, is_hash, local_name, same_local_name}
 pub use Rattle.lol_base.specs.MemberLaws.{Among, Distinct, among_back, among_either, among_from_contains, among_front, contains-append, contains_from_among, count_by-cons, distinct_from_pairs, map-map, same_count, among_filter, among_map, filter_among, map_among}
 pub use Rattle.lol_base.specs.Names.{is_esi, is_void, lowercased, same_name}
 pub use Rattle.lol_base.specs.PlaceLaws.{at_among, at_within, head_is, one_place, same_at, some_is, tail_is, within_at}
 pub use Rattle.lol_base.specs.StartTags.{Attribute, StartTag}
-pub use Rattle.lol_base.specs.declared.namespace.Namespace.{Namespace}
 pub use Rattle.lol_base.specs.declared.namespace.Namespace.TheVariants.{Html, MathML, Svg}
+pub use Rattle.lol_base.specs.declared.namespace.Namespace.{Namespace}
 pub use Rattle.lol_instructions.specs.Attributes.{TagAttributes, tag_attributes}
 pub use Rattle.lol_instructions.specs.Compiled.{Sight, sight, sight_of}
 pub use Rattle.lol_instructions.specs.Compounds.{Decides, all_hold, by_names, has_test_by_type, is_open, with_rest}
@@ -26,21 +26,21 @@ pub use Rattle.lol_stack.specs.declared.execution_ctx.ExecutionCtx.{ExecutionCtx
 pub use Rattle.lol_stack.specs.declared.stack.StackNames.{StackNames}
 pub use Rattle.lol_stack.specs.declared.stack.StackOf.{StackOf}
 pub use Rattle.lol_stack.specs.declared.stack_item.StackItemOf.{StackItemOf}
+pub use Rattle.lol_tag_runs.specs.InstructionRuns.{AreRunnable, HasTriesLeft, IsInsideOf, NeedNoMemory, all_at, first_open_from, gathered_by_names, gathered_with_attributes, give_branch, holds_seen, instructions_at, open_among, tried_until, value_seen}
+pub use Rattle.lol_tag_runs.specs.Outcomes.{give_if, given_by_names, given_with_attributes, is_true}
+pub use Rattle.lol_tag_runs.specs.TagRuns.{AreExecuted, AreTried, AreWithin, IsPointIn, IsStopIn, jumps_in, jumps_of_item, number_of, ranges_from, ranges_left, all_ranges, left_ranges, ranges_to_run_in, rest_of, sight_in, tag_ranges, tried_at, ranges_of_active}
+pub use Rattle.lol_vm.specs.AddressRuns.{Context, Gathers, at_addresses, branch, context_of, gathered_from_addresses, give_if_there, given_by, hereditary_jumps_list, ids_list, instruction_holds, instruction_value, is_open_at, jumps_list, no_context, run, value_at}
 pub use Rattle.lol_vm.specs.Answers.{Answer, Dropped, Ended, Match, Started, after, answer, answers, answers_from, asks, attribute_tries, document, document_from, is_dropped, is_tried, is_tried_open, matching_ids, name_tries, needs_attributes, report}
 pub use Rattle.lol_vm.specs.Documents.{Document, after_end, after_start, children_of, closed, element_of, empty, inner_part, outer_part, parent_of, index_of, same_parent, typed_children_of}
 pub use Rattle.lol_vm.specs.EventRuns.{Goes, GoesByStart, IsRunOf, answer_with, machine_of}
 pub use Rattle.lol_vm.specs.Events.{End, Event, Start, has_content, has_content_in}
 pub use Rattle.lol_vm.specs.Follows.{Follows, IsCharged, IsDropped, IsHandedOver, IsRefusedFor, IsRunWithoutMemory, HasOutcome, StartedElement, Stops, opens, refusal_after}
-pub use Rattle.lol_vm.specs.InstructionRuns.{AreRunnable, HasTriesLeft, IsInsideOf, NeedNoMemory, all_at, first_open_from, gathered_by_names, gathered_with_attributes, give_branch, holds_seen, instructions_at, open_among, tried_until, value_seen}
 pub use Rattle.lol_vm.specs.MachineLaws.{IsRequest, ProgramsHaveEachNode, RangesHoldLeftMatches, starts_open}
-pub use Rattle.lol_vm.specs.Machines.{AreItems, HasRanges, HoldOnce, IsItem, IsReached, LeftMatches, Matches, OpenItem, active_of, children_shown, hereditary_jumps_of, item_shown, items_shown, jumps_of, last_jumps, ranges_of_active, ranges_to_run}
+pub use Rattle.lol_vm.specs.Machines.{AreItems, HasRanges, HoldOnce, IsItem, IsReached, LeftMatches, Matches, OpenItem, active_of, children_shown, hereditary_jumps_of, item_shown, items_shown, jumps_of, last_jumps, ranges_to_run}
 pub use Rattle.lol_vm.specs.Matching.{left_matches, matches, parent_passes, some_ancestor_passes}
-pub use Rattle.lol_vm.specs.Outcomes.{give_if, given_by_names, given_with_attributes, is_true}
-pub use Rattle.lol_vm.specs.AddressRuns.{Context, Gathers, at_addresses, branch, context_of, gathered_from_addresses, give_if_there, given_by, hereditary_jumps_list, ids_list, instruction_holds, instruction_value, is_open_at, jumps_list, no_context, run, value_at}
 pub use Rattle.lol_vm.specs.Refusals.{Allowance, Cause, Counter, Limit, exceeds, greatest_count, longest, longest_from, or_later, refusal, refused, refused_from}
 pub use Rattle.lol_vm.specs.ReportLaws.{among_matching_ids, every_report, matching_ids_among, matching_ids_ascend}
 pub use Rattle.lol_vm.specs.Standing.{AreTyped, AreTypedIf, CountersArePositions, Descend, DocumentsAreOrdered, HasCounted, IsOrdered, StandsFor, StandsOn, unfinished}
-pub use Rattle.lol_vm.specs.TagRuns.{AreExecuted, AreTried, AreWithin, IsPointIn, IsStopIn, jumps_in, jumps_of_item, number_of, ranges_from, ranges_left, all_ranges, left_ranges, ranges_to_run_in, rest_of, sight_in, tag_ranges, tried_at}
 pub use Rattle.lol_vm.specs.Views.{answer_of, event_of, match_of, selectors, tag_of}
 pub use Rattle.lol_vm.specs.Vms.{AreOpened, ChargesSlots, GoesOnAt, HasOpen, IsAnswered, IsChargedFor, IsCovered, IsEntered, IsPending, IsRefusal, IsReported, IsRequested, IsRestOf, IsSilent, IsTagOf, IsTriedAtMost, OpensNothing, Stands, StaysFailed, Vm, content_in, content_of, data_in, has_failed, info_of, instructions_in, is_asked_for, open_after, ranges_to_try, slot_bytes, slots_charged, stack_in, tries_in}
 pub use Rattle.std.proofs.Common.{All, Bool, Contains, Err, List, None, Ok, Option, Result, Some, [], ap, arith, cond, count_by, drop, drop-cons, false, filter, flat_map, get_or, if◌then◌else◌, inl, inr, is_none, length, map, map-id, max, nat_le, nat_lt, not, of_calls, option_to_list, position, refl, reverse, rules, slice_get, slice_set, subst, suc, sym, take, true, true≢false, unwrap_or, zero, ℕ, ◌&&◌, ◌*◌, ◌++◌, ◌+◌, ◌-◌, ◌<◌, ◌==◌, ◌^◌, ◌||◌, ◌↔◌, ◌∙◌, ◌∷◌, ◌≡◌, ◌≢◌, ◌≤◌, ◌⊎◌}

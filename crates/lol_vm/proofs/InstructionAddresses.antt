@@ -7,7 +7,7 @@ use Rattle.lol_program.specs.ProgramViews.{instruction_shown, program_shown}
 use Rattle.lol_program.specs.declared.program.Program as code
 use Rattle.lol_instructions.specs.declared.instruction.Instruction.{Instruction}
 use Rattle.lol_vm.proofs.GatheringLemmas.{branches_gather}
-use Rattle.lol_vm.proofs.OutcomeLemmas.{attributes-map, attributes_keep, count_by-map, names-map, names_keep, position_from-map}
+use Rattle.lol_tag_runs.specs.OutcomeLaws.{attributes-map, attributes_keep, count_by-map, names-map, names_keep, position_from-map}
 use Rattle.lol_vm.proofs.Stops.{context_by_names}
 use Rattle.std.proofs.lemmas.List.Elements.{All-contains}
 

@@ -1,15 +1,13 @@
 mod Common
 pub mod Spared
-pub mod Finding
-mod TagRuns
 mod Starts
 mod VmStarts
-mod TriedStarts
+mod TriedStartLemmas
 mod Directives
 mod VmFinishes
 mod VmRefusals
 mod VmData
-mod FreeTags
+mod FreeTagLemmas
 mod SmallSelectors
 pub mod Runs
 pub mod RefusedRuns
@@ -25,8 +23,6 @@ pub mod Whole
 pub mod Children
 pub mod StackCounting
 pub mod GatheringLemmas
-pub mod OutcomeLemmas
-pub mod InstructionLists
 pub mod StackEnds
 pub mod InstructionAddresses
 pub mod CallerLemmas

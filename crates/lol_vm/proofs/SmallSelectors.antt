@@ -2,7 +2,7 @@
 use Rattle.lol_vm.proofs.Common.{◌≡◌, ℕ, Bool, true, false, List, None, refl, sym, ap, ◌∙◌, arith, inl, inr, Contains, nat_lt, not, ◌||◌, is_none, nat_tests, and_parts, Among, among_from_contains, has_test_by_type, Path, First, Then, Selectors, beginnings, last_compound, above}
 use Rattle.lol_program.specs.ClosedLaws.{among_flat_map}
 use Rattle.lol_vm.specs.FreeTags.{AreAmong, AreSmall, SmallPairs, FlatPairs, is_flat, is_small, path_has_type}
-use Rattle.lol_vm.proofs.FreeTags.{all_parts}
+use Rattle.lol_vm.proofs.FreeTagLemmas.{all_parts}
 
 neither : (a b : Bool) → (a || b) ≡ false → (a ≡ false) × (b ≡ false)
 neither true b h = cc

@@ -2,7 +2,7 @@
 use Rattle.lol_vm.proofs.Common.{◌≡◌, ℕ, ◌+◌, ◌-◌, ◌<◌, ◌≤◌, ◌^◌, Bool, true, false, cond, not, ◌&&◌, ◌||◌, and-true, List, [], ◌∷◌, ◌++◌, length, filter, All, Option, Some, None, inl, inr, refl, sym, ap, ◌∙◌, subst, arith, Contains, slice_get, list_any, option_map, Range, range_with_len, tag_attributes, Element, Path, Selectors, Among, among_from_contains, contains_from_among, among_filter, filter_among, among_map, same_bool, and_parts, and_of, at_among, at_within, IsAt, IsProgramOf, addresses, all_addresses, HoldOnce, LeftMatches, IsInsideOf, is_tried, left_matches, lowercased}
 use Rattle.std.specs.Prelude.{min, ◌≢◌}
 use Rattle.std.proofs.lemmas.List.Kept.{AllPairs-filter}
-use Rattle.std.proofs.lemmas.List.Elements.{filter-append, All-weaker, All-contains_itself}
+use Rattle.std.proofs.lemmas.List.Elements.{All-weaker, All-contains_itself}
 use Rattle.std.proofs.lemmas.List.FromFn.{length-range_with_len}
 use Rattle.std.proofs.lemmas.List.{length-append}
 use Rattle.std.proofs.lemmas.Option.{slice_get-map}
@@ -14,10 +14,11 @@ use Rattle.lol_program.specs.Programs.{Once}
 use Rattle.lol_program.specs.ProgramViews.{has_rows, instruction_shown, program_shown}
 use Rattle.lol_program.specs.Programs as programs
 use Rattle.lol_program.specs.declared.program.Program.{Program}
-use Rattle.lol_rows.specs.Rows.{is_left_by_keys, is_left_by_name, is_left_open, keys_of, passes_at, passing, some_pass}
+use Rattle.lol_rows.specs.Rows.{is_left_by_keys, is_left_by_name, is_left_open, keys_of, passes_at, some_pass}
 use Rattle.lol_vm.specs.KeyTries as tries
 use Rattle.lol_vm.specs.KeyTries.{asks_at_once, is_left, node_keys}
-use Rattle.lol_vm.specs.SparedRuns.{all_passing, single, singles, spared}
+use Rattle.lol_tag_runs.specs.SparedRuns.{all_passing, single, singles, spared}
+use Rattle.lol_tag_runs.specs.SparedLaws.{any_append, passing_all, passing_few}
 use Rattle.lol_vm.proofs.Counted.{Tried}
 use Rattle.lol_vm.proofs.Held.{instruction_at, address_of_node}
 use Rattle.lol_vm.specs.TriedLaws.{NotAtOnce, tried_left}
@@ -42,19 +43,6 @@ singles_few (x ∷ xs) =
     omega (arith, one, all, rest)
 
 -- 2. What passes of ranges
-
-passing_all : (left : Instruction → Bool) (instructions : List Instruction) (ranges : List (Range ℕ)) → all_passing left instructions ranges ≡ filter (passes_at left instructions) (all_addresses ranges)
-passing_all left instructions [] = refl
-passing_all left instructions (r ∷ ranges) =
-    ap (λ xs. passing left instructions r ++ xs) (passing_all left instructions ranges) ∙ sym (filter-append (passes_at left instructions) (addresses r) (all_addresses ranges))
-
-pub any_append : {T : Type 0} (q : T → Bool) (xs ys : List T) → list_any q (xs ++ ys) ≡ (list_any q xs || list_any q ys)
-any_append q [] ys = refl
-any_append q (x ∷ xs) ys = by_test (q x) (any_append q xs ys)
-  where
-    by_test : (b : Bool) → list_any q (xs ++ ys) ≡ (list_any q xs || list_any q ys) → (b || list_any q (xs ++ ys)) ≡ ((b || list_any q xs) || list_any q ys)
-    by_test true more = refl
-    by_test false more = more
 
 any_passes : (left : Instruction → Bool) (instructions : List Instruction) (ranges : List (Range ℕ)) → list_any (some_pass left instructions) ranges ≡ list_any (passes_at left instructions) (all_addresses ranges)
 any_passes left instructions [] = refl
@@ -82,21 +70,6 @@ passing_address left instructions a h = by_get (slice_get instructions a) refl h
         no : (b : Bool) → b ≡ true → b ≡ false → ⊥
         no b passes fails = cc
     by_get (Some i) is h = at_within instructions a i is
-
-filter_few : (q : ℕ → Bool) (xs : List ℕ) → length (filter q xs) ≤ length xs
-filter_few q [] = omega arith
-filter_few q (x ∷ xs) = by_test (q x) (filter_few q xs)
-  where
-    by_test : (b : Bool) → length (filter q xs) ≤ length xs → length (cond b (x ∷ filter q xs) (filter q xs)) ≤ length (x ∷ xs)
-    by_test true few = omega (arith, few)
-    by_test false few = omega (arith, few)
-
--- no more passes than there is
-pub passing_few : (left : Instruction → Bool) (instructions : List Instruction) (ranges : List (Range ℕ)) → length (all_passing left instructions ranges) ≤ length (all_addresses ranges)
-passing_few left instructions ranges =
-    let found = ap length (passing_all left instructions ranges) in
-    let few = filter_few (passes_at left instructions) (all_addresses ranges) in
-    omega (arith, found, few)
 
 -- no more is run than where nothing is spared
 pub spared_few : (prog : Program) (left : Instruction → Bool) (ranges : List (Range ℕ)) → length (all_addresses (spared prog left ranges)) ≤ length (all_addresses ranges)

@@ -6,7 +6,7 @@ use Rattle.std.proofs.lemmas.Iterator.Adapters.{position_from-zero}
 use Rattle.std.proofs.lemmas.List.Quantifiers.{position-Some}
 use Rattle.lol_stack.specs.SoundStacks.{last_depth_from, IsSound}
 use Rattle.lol_stack.specs.SoundLaws.{ends_at_last}
-use Rattle.lol_vm.proofs.OutcomeLemmas.{position_from-append}
+use Rattle.lol_tag_runs.specs.OutcomeLaws.{position_from-append}
 use Rattle.lol_vm.proofs.Runs.{cut_reverse}
 use Rattle.lol_vm.proofs.StackCounting.{shown_length}
 

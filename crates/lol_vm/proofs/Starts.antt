@@ -15,20 +15,20 @@ use Rattle.lol_stack.specs.Active.{activated, active_ranges_of}
 use Rattle.lol_stack.specs.SoundRangeLaws.{active_after-append}
 use Rattle.lol_stack.specs.SoundStacks.{IsSound, hereditary_jumps_in}
 use Rattle.lol_vm.specs.Matching as matching
-use Rattle.lol_vm.specs.declared.tag_runs.Stop.{Stop}
+use Rattle.lol_tag_runs.specs.declared.tag_runs.Stop.{Stop}
 use Rattle.lol_vm.proofs.Counted.{Tried, addresses_are_nodes, addresses_count_tries}
 use Rattle.lol_vm.specs.TriedLaws.{NotAtOnce}
 use Rattle.lol_vm.proofs.Spared.{kept_held, named_held, opens_asked, spared_few, spared_inside}
 use Rattle.lol_rows.specs.Rows.{is_left_by_keys, is_left_by_name}
 use Rattle.lol_vm.specs.KeyTries.{asks_at_once, is_left_open, node_keys}
-use Rattle.lol_vm.specs.SparedRuns.{IsSparing, opens_at_once, opens_by_rows, ranges_by_name, spared}
+use Rattle.lol_tag_runs.specs.SparedRuns.{IsSparing, opens_at_once, opens_by_rows, ranges_by_name, spared}
 use Rattle.lol_rows.specs.declared.rows.Rows.{Rows}
 use Rattle.std.specs.Prelude.{is_some}
-use Rattle.lol_vm.specs.declared.spared_runs.RowSpace.{RowSpace}
+use Rattle.lol_tag_runs.specs.declared.spared_runs.RowSpace.{RowSpace}
 use Rattle.lol_vm.proofs.Held.{ranges_are_inside, ranges_hold_left_matches, programs_have_each_node}
-use Rattle.lol_vm.proofs.InstructionLists.{offset_inside}
+use Rattle.lol_tag_runs.specs.RunLaws.{offset_inside}
 use Rattle.lol_vm.proofs.InstructionAddresses.{names_gather, same_count, same_stop}
-use Rattle.lol_vm.proofs.OutcomeLemmas.{attributes_keep, names_keep}
+use Rattle.lol_tag_runs.specs.OutcomeLaws.{attributes_keep, names_keep}
 use Rattle.lol_vm.proofs.StackCounting.{ends, last_at, shown_push}
 use Rattle.lol_vm.proofs.Stops.{WholeStart, context_by_names, from_number, left_by_names, numbers_are_offsets, started_by_names, stopped_starts_are_whole, stops_leave}
 

@@ -9,7 +9,7 @@ use Rattle.lol_instructions.specs.declared.name_value.NameValue.TheVariants.{Tru
 use Rattle.lol_program.specs.ValueLaws.{values_decide, values_are_by_names}
 use Rattle.lol_vm.proofs.Held.{path_at}
 use Rattle.lol_vm.proofs.Counted.{Tried, addresses_count_tries}
-use Rattle.lol_vm.proofs.OutcomeLemmas.{attributes-append, from_first, names-map}
+use Rattle.lol_tag_runs.specs.OutcomeLaws.{attributes-append, from_first, names-map}
 
 -- 1. Runs gather
 

@@ -6,7 +6,7 @@ use Rattle.lol_program.specs.declared.program.Program as code
 use Rattle.lol_stack.specs.Lending.{with_data}
 use Rattle.lol_stack.specs.SoundLaws.{set_keeps, data_keep_sound}
 use Rattle.lol_stack.specs.StackLending.{with_current, with_data_at, with_data_if}
-use Rattle.lol_vm.specs.SparedRuns.{ranges_before}
+use Rattle.lol_tag_runs.specs.SparedRuns.{ranges_before}
 use Rattle.lol_vm.specs.VmLending.{with_current_in}
 use Rattle.lol_vm.specs.Vms.{is_at_once, ranges_tried}
 use Rattle.lol_vm.specs.VmLaws.{DataChangeNothing, DataKeepOpen, DataKeepRequests, LastDataAreLent, LastDataChange, PendingStands, SlotsAreOfDepth}

@@ -7,22 +7,22 @@ use Rattle.lol_stack.specs.Calls.{IsCalledAtEach, reports}
 use Rattle.lol_stack.specs.WithRange.{no_range}
 use Rattle.lol_vm.specs.VmLaws.{RequestsTryAtMost}
 use Rattle.lol_vm.specs.declared.error.AuxStartTagInfoRequest.{AuxStartTagInfoRequest}
-use Rattle.lol_vm.specs.declared.tag_runs.RecoveryPoint.{RecoveryPoint}
-use Rattle.lol_vm.specs.declared.tag_runs.RecoveryPoint.TheVariants.{AtOnce, At}
+use Rattle.lol_tag_runs.specs.declared.tag_runs.RecoveryPoint.{RecoveryPoint}
+use Rattle.lol_tag_runs.specs.declared.tag_runs.RecoveryPoint.TheVariants.{AtOnce, At}
 use Rattle.lol_vm.proofs.Answered.{in_order}
 use Rattle.lol_vm.proofs.Counted.{addresses_count_tries, TriesAreExact}
 use Rattle.lol_program.specs.Programs.{Program}
 use Rattle.lol_program.specs.ProgramViews.{has_rows, program_shown}
 use Rattle.lol_vm.proofs.Gathered.{GivesReport, runs_give_reports}
 use Rattle.lol_vm.proofs.GatheringLemmas.{gathered_ids_ascend}
-use Rattle.lol_vm.proofs.InstructionLists.{offset_inside}
+use Rattle.lol_tag_runs.specs.RunLaws.{offset_inside}
 use Rattle.lol_vm.proofs.InstructionAddresses.{attributes_gather, same_count, same_opens}
 use Rattle.lol_vm.proofs.Kept.{after_unfinished, on_for}
 use Rattle.lol_vm.proofs.Starts.{IsChosen, Running, few_addresses, StaysThe, chosen_by_keys, chosen_by_name, within_bounds, attributes_stay, run_content, content_ids}
 use Rattle.lol_vm.specs.KeyTries.{asks_at_once, node_keys}
-use Rattle.lol_vm.specs.SparedRuns.{HasRoom, HasRoomFor, IsSparing, all_passing, left_at_point, singles, ranges_after, ranges_before, ranges_by_name}
+use Rattle.lol_tag_runs.specs.SparedRuns.{HasRoom, HasRoomFor, IsSparing, all_passing, left_at_point, singles, ranges_after, ranges_before, ranges_by_name}
 use Rattle.lol_vm.specs.Vms.{is_at_once}
-use Rattle.lol_vm.specs.declared.spared_runs.RowSpace.{RowSpace}
+use Rattle.lol_tag_runs.specs.declared.spared_runs.RowSpace.{RowSpace}
 use Rattle.lol_vm.proofs.Stops.{left_counted, requests_finish, runs_gather}
 use Rattle.lol_vm.proofs.VmStarts.{IsComplete, answered}
 

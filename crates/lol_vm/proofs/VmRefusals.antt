@@ -1,6 +1,6 @@
 -- What survives a refusal, and what end tags do.
 use Rattle.lol_vm.proofs.Common.{◌≡◌, ◌-◌, Result, Ok, Err, ℕ, ◌<◌, ◌≤◌, Bool, true, false, List, [], ◌∷◌, ◌++◌, length, take, drop, Option, Some, None, refl, sym, ap, ◌∙◌, subst, arith, ◌↔◌, slice_get, max, nat_lt, if◌then◌else◌, nat_tests, length-set, length-map, length-take, take_all, drop_all, Name, local_name, StartTag, Html, LimitedVec, IsLimited, Limiter, full_count, IsProgramOf, Selectors, Element, document, Document, after_start, after_end, Event, End, items_in, list_in, slots_in, depths_in, last_count, counted_in, counted_if, counted_item, with_typed, closed_from, element_data_of, depth_to_close, last_below, IsSame, IsEnded, IsEndedAt, IsOrdered, selectors, Vm, Stands, HasOpen, IsRefusal, IsRequested, IsSilent, has_failed, open_after, data_in, OpensNothing, StaysFailed, ExecutionCtx, StackItemOf, StackOf, StackNames, StandsOn, StandsFor, longest, empty}
-use Rattle.std.specs.Result.{OnOk, OnErr, IsOk}
+use Rattle.std.specs.Result.{OnOk, OnErr}
 use Rattle.std.specs.List.{take-map, drop-map}
 use Rattle.lol_program.specs.Asts.{nodes_of}
 use Rattle.lol_program.specs.ClosedLaws.{trees_are_closed}
@@ -17,7 +17,7 @@ use Rattle.lol_stack.specs.declared.stack.AddChildError.TheVariants as children
 use Rattle.lol_vm.specs.declared.error.AuxStartTagInfoRequest.{AuxStartTagInfoRequest}
 use Rattle.lol_vm.specs.declared.error.VmError.{VmError}
 use Rattle.lol_vm.specs.declared.error.VmError.TheVariants.{InfoRequest, MemoryLimitExceeded, Memory, CounterFull, Failed}
-use Rattle.lol_vm.specs.declared.tag_runs.RecoveryPoint.{RecoveryPoint}
+use Rattle.lol_tag_runs.specs.declared.tag_runs.RecoveryPoint.{RecoveryPoint}
 use Rattle.lol_program.specs.Programs as programs
 use Rattle.lol_stack.specs.SoundLaws.{new_is_sound}
 use Rattle.lol_vm.specs.AnswerLaws.{document_push}
@@ -25,7 +25,7 @@ use Rattle.lol_vm.proofs.Children.{documents_are_ordered, ordered_end, ordered_s
 use Rattle.lol_vm.proofs.Kept.{IsNew, counted_stands, ended_stands, for_on, new_stands, same_stands}
 use Rattle.lol_vm.proofs.StackCounting.{many_are}
 use Rattle.lol_vm.proofs.VmStarts.{counted_data}
-use Rattle.lol_vm.specs.SparedRuns.{IsSparing}
+use Rattle.lol_tag_runs.specs.SparedRuns.{IsSparing}
 
 -- 1. Machines that stand
 
@@ -341,7 +341,3 @@ limited_counted s name l = limited_if (with_typed s _) (slice_get (items_in s) (
 pub not_false : (b : Bool) → (b ≡ false → ⊥) → b ≡ true
 not_false true h = refl
 not_false false h = absurd (h refl)
-
-pub err_is_not_ok : {T X : Type 0} (r : Result T X) (e : X) → r ≡ Err e → IsOk r → ⊥
-err_is_not_ok (Ok v) e is ok = cc
-err_is_not_ok (Err x) e is ok = cc

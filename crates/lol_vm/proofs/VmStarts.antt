@@ -5,14 +5,14 @@ use Rattle.lol_stack.specs.Calls.{IsCalledAtEach, reports}
 use Rattle.lol_vm.specs.declared.error.AuxStartTagInfoRequest.{AuxStartTagInfoRequest}
 use Rattle.lol_vm.specs.declared.error.VmError.{VmError}
 use Rattle.lol_vm.specs.declared.error.VmError.TheVariants.{InfoRequest}
-use Rattle.lol_vm.specs.declared.tag_runs.RecoveryPoint.{RecoveryPoint}
+use Rattle.lol_tag_runs.specs.declared.tag_runs.RecoveryPoint.{RecoveryPoint}
 use Rattle.lol_program.specs.ProgramViews.{program_shown}
 use Rattle.lol_stack.specs.SoundLaws.{set_keeps}
 use Rattle.lol_vm.specs.AnswerLaws.{document_push}
 use Rattle.lol_vm.proofs.Children.{documents_are_ordered}
 use Rattle.lol_vm.proofs.Gathered.{GivesReport}
-use Rattle.lol_vm.specs.SparedRuns.{IsSparing}
-use Rattle.lol_vm.specs.declared.spared_runs.RowSpace.{RowSpace}
+use Rattle.lol_tag_runs.specs.SparedRuns.{IsSparing}
+use Rattle.lol_tag_runs.specs.declared.spared_runs.RowSpace.{RowSpace}
 use Rattle.lol_vm.proofs.Kept.{IsItemOf, for_on, opened_stands}
 
 -- 1. Data

@@ -8,7 +8,7 @@ use Rattle.lol_instructions.specs.declared.name_value.NameValue.{NameValue}
 use Rattle.lol_instructions.specs.declared.name_value.NameValue.TheVariants.{False}
 use Rattle.lol_memory.specs.Ids.{Ids, has}
 use Rattle.lol_stack.specs.declared.stack_item.StackItemOf.{StackItemOf}
-use Rattle.lol_vm.specs.Outcomes.{given_with_attributes}
+use Rattle.lol_tag_runs.specs.Outcomes.{given_with_attributes}
 
 -- 1. What all addresses give
 

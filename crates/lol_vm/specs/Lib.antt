@@ -18,13 +18,9 @@ pub mod Handlers
 pub mod FreeTags
 pub mod Due
 pub mod VmLaws
-pub mod Outcomes
-pub mod InstructionRuns
 pub mod Laws
 pub mod ReportLaws
 pub mod AnswerLaws
-pub mod SparedRuns
-pub mod TagRuns
 pub mod Machines
 pub mod AddressRuns
 pub mod MachineLaws

@@ -7,6 +7,7 @@ use Rattle.lol_instructions.specs.Tests.{Element}
 use Rattle.lol_program.specs.Paths.{Path}
 use Rattle.lol_vm.specs.Matching.{matches, left_matches}
 use Rattle.lol_stack.specs.Active.{activated}
+use Rattle.lol_tag_runs.specs.TagRuns.{ranges_of_active}
 use Rattle.lol_stack.specs.declared.stack_item.StackItemOf.{StackItemOf}
 use Rattle.lol_program.specs.Programs.{Instruction, Program, IsAt, Once, all_addresses}
 
@@ -74,9 +75,6 @@ active_of (item ∷ outer) = activated (active_of outer) (length outer) item.her
 abbrev pub last_jumps : List OpenItem → List (Range ℕ)
 last_jumps [] = []
 last_jumps (item ∷ outer) = item.jumps
-
-abbrev pub ranges_of_active : List (Range ℕ × ℕ) → List (Range ℕ)
-ranges_of_active active = map (λ a. a.0) active
 
 abbrev pub ranges_to_run : Program → List OpenItem → List (Range ℕ)
 ranges_to_run p items = p.entry ∷ (last_jumps items ++ ranges_of_active (active_of items))

@@ -3,7 +3,7 @@ use Rattle.std.specs.Prelude.{ℕ, ◌≡◌, ◌<◌, ◌^◌, ◌⊎◌, Bool,
 use Rattle.std.specs.declared.ops.Range.{Range}
 use Rattle.lol_program.specs.Programs.{all_addresses}
 use Rattle.lol_program.specs.ProgramViews.{HasItsRows, has_rows}
-use Rattle.lol_vm.specs.SparedRuns.{HasRoom, HasRoomFor, opens_at_once, ranges_after, ranges_by_name}
+use Rattle.lol_tag_runs.specs.SparedRuns.{HasRoom, HasRoomFor, opens_at_once, ranges_after, ranges_by_name}
 use Rattle.std.specs.declared.alloc.AllocError.{AllocError}
 use Rattle.lol_base.specs.LocalNames.{Name}
 use Rattle.lol_base.specs.StartTags.{StartTag}
@@ -18,14 +18,14 @@ use Rattle.lol_stack.specs.declared.execution_ctx.ExecutionCtx.{ExecutionCtx}
 use Rattle.lol_stack.specs.declared.stack.StackNames.{StackNames}
 use Rattle.lol_stack.specs.declared.stack.StackOf.{StackOf}
 use Rattle.lol_vm.specs.Events.{has_content}
-use Rattle.lol_vm.specs.InstructionRuns.{AreRunnable, NeedNoMemory}
-use Rattle.lol_vm.specs.TagRuns.{AreExecuted, AreTried, AreWithin, IsPointIn, ranges_left, sight_in, tried_at}
+use Rattle.lol_tag_runs.specs.InstructionRuns.{AreRunnable, NeedNoMemory}
+use Rattle.lol_tag_runs.specs.TagRuns.{AreExecuted, AreTried, AreWithin, IsPointIn, ranges_left, sight_in, tried_at}
 use Rattle.lol_instructions.specs.Attributes.{TagAttributes}
 use Rattle.lol_vm.specs.Vms.{IsTagOf, Vm, instructions_in, ranges_to_try}
 use Rattle.lol_vm.specs.declared.error.AuxStartTagInfoRequest.{AuxStartTagInfoRequest}
-use Rattle.lol_vm.specs.declared.tag_runs.RecoveryPoint.{RecoveryPoint}
-use Rattle.lol_vm.specs.declared.tag_runs.RecoveryPoint.TheVariants.{AtOnce, At}
-use Rattle.lol_vm.specs.declared.tag_runs.Stop.{Stop}
+use Rattle.lol_tag_runs.specs.declared.tag_runs.RecoveryPoint.{RecoveryPoint}
+use Rattle.lol_tag_runs.specs.declared.tag_runs.RecoveryPoint.TheVariants.{AtOnce, At}
+use Rattle.lol_tag_runs.specs.declared.tag_runs.Stop.{Stop}
 
 -- Something is so of where a run stopped, if it did; or the rest of the tag was asked for before anything was run.
 abbrev pub OfStop : (Option Stop → Type 0) → Type 0 → Option RecoveryPoint → Type 0

@@ -13,7 +13,7 @@ use Rattle.lol_program.specs.Paths.{Path, Selectors}
 use Rattle.lol_program.specs.Programs.{AreClosed, all_addresses}
 use Rattle.lol_program.specs.ProgramViews.{program_shown}
 use Rattle.lol_vm.specs.KeyTries.{asks_at_once, node_keys}
-use Rattle.lol_vm.specs.SparedRuns.{IsSparing, ranges_before}
+use Rattle.lol_tag_runs.specs.SparedRuns.{IsSparing, ranges_before}
 use Rattle.lol_instructions.specs.Tests.{Element, is_html}
 use Rattle.lol_instructions.specs.Tries.{names_counted, attributes_counted}
 use Rattle.lol_program.specs.declared.program.Program.{Program}
@@ -27,7 +27,7 @@ use Rattle.lol_vm.specs.AddressRuns.{Gathers, Context, no_context}
 use Rattle.lol_vm.specs.MachineLaws.{IsRequest}
 use Rattle.lol_stack.specs.Stacks.{items_in, element_data_of, slots_in, item_bytes_in, IsPushed}
 use Rattle.lol_vm.specs.Standing.{StandsOn, IsOrdered, StandsFor, unfinished}
-use Rattle.lol_vm.specs.TagRuns.{sight_in, ranges_to_run_in, ranges_left, IsPointIn, tried_at}
+use Rattle.lol_tag_runs.specs.TagRuns.{sight_in, ranges_to_run_in, ranges_left, IsPointIn, tried_at}
 use Rattle.lol_vm.specs.declared.error.AuxStartTagInfoRequest.{AuxStartTagInfoRequest}
 use Rattle.lol_vm.specs.declared.error.VmError.{VmError}
 use Rattle.lol_vm.specs.declared.error.VmError.TheVariants.{InfoRequest, MemoryLimitExceeded, Memory, CounterFull, Failed}
@@ -35,8 +35,8 @@ use Rattle.lol_stack.specs.declared.execution_ctx.ExecutionCtx.{ExecutionCtx}
 use Rattle.lol_stack.specs.declared.stack_item.StackItemOf.{StackItemOf}
 use Rattle.lol_stack.specs.declared.stack.StackOf.{StackOf}
 use Rattle.lol_stack.specs.declared.stack.StackNames.{StackNames}
-use Rattle.lol_vm.specs.declared.tag_runs.RecoveryPoint.{RecoveryPoint}
-use Rattle.lol_vm.specs.declared.tag_runs.RecoveryPoint.TheVariants.{AtOnce, At}
+use Rattle.lol_tag_runs.specs.declared.tag_runs.RecoveryPoint.{RecoveryPoint}
+use Rattle.lol_tag_runs.specs.declared.tag_runs.RecoveryPoint.TheVariants.{AtOnce, At}
 use Rattle.lol_vm.specs.declared.vm.VmOf.{VmOf}
 
 abbrev pub Vm : Type 0 → Type 0

@@ -1,8 +1,8 @@
 //! Why a start tag wasn't answered.
 
-use crate::tag_runs::RecoveryPoint;
 use lol_memory::{MemoryLimitExceededError, PushError};
 use lol_stack::{AddChildError, ExecutionCtx};
+use lol_tag_runs::RecoveryPoint;
 use std::alloc::AllocError;
 use std::fmt;
 use thiserror::Error;

@@ -5,12 +5,9 @@ mod collected;
 mod error;
 mod event_run;
 mod events;
-mod instruction_runs;
 pub mod laws;
 pub mod machine_laws;
 mod run;
-mod spared_runs;
-mod tag_runs;
 mod vm;
 pub mod vm_laws;
 

@@ -19,21 +19,20 @@ ghost use Rattle.lol_vm.specs.Due.{IsDue, IsNeverForMemory, IsAfterHandedReport,
 ghost use Rattle.lol_vm.specs.Premises.{ForAskedOf, ForEndOf, ForHandedOf, ForPending, ForRestOf, ForTagOf};
 ghost use Rattle.lol_program.specs.ProgramViews.{has_rows};
 ghost use Rattle.lol_vm.specs.TriedStarts.{IsBegun, IsCompleted, IsNewContext, IsTried, IsTriedByName, left_at};
-ghost use Rattle.lol_vm.specs.SparedRuns.{HasRoom, stopped_by};
+ghost use Rattle.lol_tag_runs.specs.SparedRuns.{HasRoom, stopped_by};
 ghost use Rattle.lol_vm.specs.VmLending.{lends_current_of_vm};
 ghost use Rattle.lol_stack.specs.Stacks.{items_in, slots_in, item_bytes_in, list_in, last_count, IsPushed, IsSame};
 ghost use Rattle.lol_vm.specs.Views.{selectors};
 ghost use Rattle.lol_vm.specs.Vms.{Stands, HasOpen, IsNameOf, IsTagOf, IsAnswered, IsReported, IsTriedAtMost, IsPending, IsRefusal, IsSilent, NeedsRest, content_in, open_after, stack_in, tries_in, has_failed, program_in, data_in, slots_charged, slot_bytes, ChargesSlots, IsCovered, IsRequested, IsEntered, OpensNothing, StaysFailed, is_asked_for, with_failure};
 
 use crate::error::{AuxStartTagInfoRequest, StartTagError, VmError};
-use crate::spared_runs::{RowSpace, find_at, find_by_name};
-use crate::tag_runs::{RecoveryPoint, TagRun};
 use lol_base::{AuxStartTagInfo, LocalName, Namespace};
 use lol_memory::{MatchInfo, MemoryLimitExceededError, PushError, SharedMemoryLimiter};
 use lol_program::{Ast, AttributeMatcher, Compiler, Program, Tries};
 use lol_stack::{
     ElementData, ExecutionCtx, Stack, StackDirective, StackItem, StackItemOf, StackNames, StackOf,
 };
+use lol_tag_runs::{RecoveryPoint, RowSpace, TagRun, find_at, find_by_name};
 use std::alloc::{AllocError, Global};
 
 /// The machine: see `SelectorMatchingVm`.

@@ -1,7 +1,7 @@
 use Rattle.std.proofs.Common.{arith}
 use Rattle.std.proofs.lemmas.Bool.Decides.{nat_tests}
 use Rattle.std.proofs.lemmas.Grind.{common_steps}
-use Rattle.lol_name_map.proofs.NameBlocks.{single_block}
+use Rattle.lol_name_map.proofs.NameBlockLemmas.{single_block}
 use Rattle.lol_name_map.proofs.name_blocks.block_for.Goals as goal
 
 pub returns-then-blocks-le1-clause-sought : goal.returns-then-blocks-le1-clause-sought

@@ -1,4 +1,4 @@
-use Rattle.lol_reasons.proofs.Witnesses.{none_is_nearer, innermost_is_only_one}
+use Rattle.lol_reasons.proofs.WitnessLemmas.{none_is_nearer, innermost_is_only_one}
 use Rattle.lol_reasons.proofs.laws.innermost_witnesses_are_innermost.Goals as goal
 
 pub returns : goal.returns

@@ -1,4 +1,4 @@
-use Rattle.lol_reasons.proofs.Witnesses.{innermost_is_witness, matches_by_witness, innermost_where_matches, witnesses_are_complete}
+use Rattle.lol_reasons.proofs.WitnessLemmas.{innermost_is_witness, matches_by_witness, innermost_where_matches, witnesses_are_complete}
 use Rattle.lol_reasons.proofs.laws.witnesses_say_what_matches.Goals as goal
 
 pub returns : goal.returns

@@ -5,7 +5,7 @@ use Rattle.std.specs.declared.ops.Range.{Range}
 use Rattle.lol_stack.specs.Active.{activated}
 use Rattle.lol_stack.specs.WithRange.{no_range}
 use Rattle.lol_stack.specs.Spans.{HasSpans}
-use Rattle.lol_stack.proofs.Spans.{kept_next, longer_next, activated_next, spans_next}
+use Rattle.lol_stack.proofs.SpanLemmas.{kept_next, longer_next, activated_next, spans_next}
 use Rattle.lol_stack.proofs.active_ranges.add_unknown.Goals as goal
 use Rattle.lol_stack.proofs.active_ranges.add_unknown.Goals.{then-branch, else-branch}
 

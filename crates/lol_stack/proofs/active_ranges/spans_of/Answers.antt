@@ -4,7 +4,7 @@ use Rattle.std.specs.declared.ops.Range.{Range}
 use Rattle.std.specs.Prelude.{get_or, take}
 use Rattle.lol_stack.specs.WithRange.{no_range}
 use Rattle.lol_stack.specs.Spans.{HasSpans}
-use Rattle.lol_stack.proofs.Spans.{spans_more}
+use Rattle.lol_stack.proofs.SpanLemmas.{spans_more}
 use Rattle.lol_stack.proofs.active_ranges.spans_of.Goals as goal
 
 pub loop-range-preserved : goal.loop-range-preserved

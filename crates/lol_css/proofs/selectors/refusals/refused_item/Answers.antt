@@ -3,7 +3,7 @@ use Rattle.std.specs.Option.{option_map}
 use Rattle.lol_css.specs.Tokens.{tokens_of}
 use Rattle.lol_css.specs.Views.{judgement, numbers}
 use Rattle.lol_css.specs.TreeViews.{item_of}
-use Rattle.lol_css.proofs.Locating.{told-starts, told-early, told-ends, told-goes_on, told-shorter}
+use Rattle.lol_css.proofs.LocatingLemmas.{told-starts, told-early, told-ends, told-goes_on, told-shorter}
 use Rattle.lol_css.proofs.selectors.refusals.refused_item.Goals as goal
 
 pub items-init : goal.items-init

@@ -4,7 +4,7 @@ use Rattle.lol_css.specs.Tokens.{tokens_of}
 use Rattle.lol_css.specs.Locating.{refused_token}
 use Rattle.lol_css.specs.Views.{numbers}
 use Rattle.lol_css.specs.declared.syntax.reader.Nesting.TheVariants.{Outside}
-use Rattle.lol_css.proofs.Locating.{told}
+use Rattle.lol_css.proofs.LocatingLemmas.{told}
 use Rattle.lol_css.proofs.selectors.refusals.refused_item.Given as goal
 
 -- what was found so far, and what the items left tell, are the whole

@@ -3,7 +3,7 @@ use Rattle.std.specs.Prelude.{slice_get, slice_set}
 use Rattle.std.proofs.lemmas.List.{length-map}
 use Rattle.lol_base.specs.LocalNames.{Name}
 use Rattle.lol_name_map.specs.NameBlocks.{AreBlocks, AreAscending, AllFilled, AllBelow, AllAbove, before, from, joined_blocks, block_at}
-use Rattle.lol_name_map.proofs.NameBlocks.{round-missing, filled-set}
+use Rattle.lol_name_map.proofs.NameBlockLemmas.{round-missing, filled-set}
 use Rattle.lol_name_map.proofs.Refusals.{on_err}
 use Rattle.lol_name_map.proofs.NameChanges.{map-set, set-same, block_there, joined-with, blocks-with, value-with, length-insert, length-zero}
 use Rattle.lol_name_map.proofs.name_blocks.NameBlocks.insert.Given as given

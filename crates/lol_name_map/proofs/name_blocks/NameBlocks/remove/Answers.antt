@@ -4,7 +4,7 @@ use Rattle.std.specs.List.{remove}
 use Rattle.lol_base.specs.LocalNames.{Name, same_local_name, local_name_cmp}
 use Rattle.std.specs.declared.cmp.Ordering.TheVariants.{Equal}
 use Rattle.lol_name_map.specs.NameBlocks.{StandsInBlocks, IsPutAt, block_at, value_in_blocks}
-use Rattle.lol_name_map.proofs.NameBlocks.{read_at}
+use Rattle.lol_name_map.proofs.NameBlockLemmas.{read_at}
 use Rattle.lol_name_map.proofs.NameChanges.{IsWithout, map-set, map-remove, there, entry_there, without-one, without-block, blocks-without, value-without}
 use Rattle.lol_name_map.proofs.name_blocks.NameBlocks.remove.Given as given
 use Rattle.lol_name_map.proofs.name_blocks.NameBlocks.remove.Goals as goal

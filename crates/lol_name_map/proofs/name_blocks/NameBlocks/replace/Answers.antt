@@ -4,7 +4,7 @@ use Rattle.std.specs.Vec.{with_item}
 use Rattle.lol_base.specs.LocalNames.{Name, same_local_name, local_name_cmp}
 use Rattle.std.specs.declared.cmp.Ordering.TheVariants.{Equal}
 use Rattle.lol_name_map.specs.NameBlocks.{AreBlocks, StandsInBlocks, block_at, value_in_blocks}
-use Rattle.lol_name_map.proofs.NameBlocks.{read_at, value-stands}
+use Rattle.lol_name_map.proofs.NameBlockLemmas.{read_at, value-stands}
 use Rattle.lol_name_map.proofs.NameChanges.{map-set, there, entry_there, blocks-set, stands-set, value-set}
 use Rattle.lol_name_map.proofs.name_blocks.NameBlocks.replace.Goals as goal
 

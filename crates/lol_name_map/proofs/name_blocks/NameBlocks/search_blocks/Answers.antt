@@ -6,7 +6,7 @@ use Rattle.std.specs.Ordering.{is_lt}
 use Rattle.lol_base.specs.LocalNames.{Name, local_name_cmp}
 use Rattle.lol_name_map.specs.declared.name_blocks.BlockPlace.{BlockPlace}
 use Rattle.lol_name_map.specs.NameBlocks.{AreBlocks, StandsInBlocks, IsMissing, is_named}
-use Rattle.lol_name_map.proofs.NameBlocks.{sought, block_is, stands_at, missing_at, value-missing}
+use Rattle.lol_name_map.proofs.NameBlockLemmas.{sought, block_is, stands_at, missing_at, value-missing}
 use Rattle.lol_name_map.proofs.name_blocks.NameBlocks.search_blocks.Goals as goal
 
 pub returns-then-is_at : goal.returns-then-is_at

@@ -2,7 +2,7 @@ use Rattle.std.proofs.Common.{◌≡◌, ◌∙◌, sym, ap, subst, Some}
 use Rattle.std.specs.Prelude.{slice_get, slice_index_or}
 use Rattle.lol_base.specs.LocalNames.{Name}
 use Rattle.lol_name_map.specs.NameBlocks.{block_at}
-use Rattle.lol_name_map.proofs.NameBlocks.{value-stands, read_at}
+use Rattle.lol_name_map.proofs.NameBlockLemmas.{value-stands, read_at}
 use Rattle.lol_name_map.proofs.name_blocks.NameBlocks.value_at.Goals as goal
 
 pub returns : goal.returns

@@ -1,7 +1,7 @@
 use Rattle.std.proofs.Common.{◌∙◌, ap, subst, None}
 use Rattle.std.specs.Prelude.{slice_set}
 use Rattle.lol_name_map.specs.NameMaps.{value_of, IsPutAt, SlottedNames}
-use Rattle.lol_name_map.proofs.NameMaps.{slot-apart, slot-put, slot-stands, slot-removed, overflow-stands, overflow-within, blocks-apart}
+use Rattle.lol_name_map.proofs.NameMapLemmas.{slot-apart, slot-put, slot-stands, slot-removed, overflow-stands, overflow-within, blocks-apart}
 use Rattle.lol_name_map.proofs.name_map.NameMap.remove.Goals.{in-Some-1, in-None-1}
 use Rattle.lol_name_map.proofs.name_map.NameMap.remove.Goals as goal
 

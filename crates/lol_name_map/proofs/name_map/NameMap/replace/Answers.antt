@@ -1,7 +1,7 @@
 use Rattle.std.proofs.Common.{sym, subst, Some}
 use Rattle.std.specs.Prelude.{slice_set}
 use Rattle.lol_name_map.specs.NameMaps.{StandsInMap, IsPutAt, SlottedNames}
-use Rattle.lol_name_map.proofs.NameMaps.{slot-apart, slot-put, slot-stands, slot-replaced, slot-still, overflow-stands, overflow-within, blocks-apart}
+use Rattle.lol_name_map.proofs.NameMapLemmas.{slot-apart, slot-put, slot-stands, slot-replaced, slot-still, overflow-stands, overflow-within, blocks-apart}
 use Rattle.lol_name_map.proofs.name_map.NameMap.replace.Goals as goal
 
 pub invariant_of-self : goal.invariant_of-self

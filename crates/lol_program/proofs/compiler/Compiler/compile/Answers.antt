@@ -11,7 +11,7 @@ use Rattle.lol_program.specs.ProgramViews.{instruction_shown, code_of, program_s
 use Rattle.lol_program.specs.Laying.{AreLaid}
 use Rattle.lol_program.specs.NodeListLaws.{size-nodes}
 use Rattle.lol_program.proofs.Laid.{layouts_are_programs}
-use Rattle.lol_program.proofs.Laying.{width_is}
+use Rattle.lol_program.proofs.LayingLemmas.{width_is}
 use Rattle.lol_program.proofs.Filled.{filled}
 use Rattle.lol_instructions.specs.declared.instruction.Instruction.{Instruction}
 use Rattle.lol_program.proofs.compiler.Compiler.compile.Goals as goal

@@ -20,7 +20,7 @@ use Rattle.lol_instructions.specs.declared.instruction.Instruction as code
 use Rattle.lol_base.specs.BoolLaws.{or-false}
 use Rattle.lol_program.proofs.CompiledLists.{flag_more}
 use Rattle.lol_program.specs.NodeViewLaws.{shape, node_out, node_roll}
-use Rattle.lol_program.proofs.Laying.{IsHalfLaid, half_init, half_step, half_done, node_done, node_same, placed_same, placed_stays, width_is, range_some}
+use Rattle.lol_program.proofs.LayingLemmas.{IsHalfLaid, half_init, half_step, half_done, node_done, node_same, placed_same, placed_stays, width_is, range_some}
 use Rattle.lol_program.proofs.compiler.Layout.+compile.Goals as goal
 
 pub compile_list-returns-clause-range : goal.compile_list-returns-clause-range

@@ -2,7 +2,7 @@ use Rattle.std.proofs.Common.{◌≡◌, ◌+◌, ◌*◌, ◌||◌, drop, lengt
 use Rattle.lol_program.specs.Views.{node_of, forest_of}
 use Rattle.lol_program.specs.Forest.{none, link, size}
 use Rattle.lol_program.specs.Layouts.{any_by_type}
-use Rattle.lol_program.proofs.Laying.{IsHalfLaid}
+use Rattle.lol_program.proofs.LayingLemmas.{IsHalfLaid}
 use Rattle.lol_program.proofs.compiler.Layout.+compile.Given as goal
 
 abbrev pub decreases-compile_list : goal.decreases-compile_list

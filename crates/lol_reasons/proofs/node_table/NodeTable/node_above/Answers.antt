@@ -1,6 +1,6 @@
 use Rattle.std.proofs.Common.{ap, sym, ◌∙◌, subst, arith}
 use Rattle.lol_reasons.specs.Climbing.{StandsUnder, node_above_from}
-use Rattle.lol_reasons.proofs.Climbing.{stands_by, stands_at_root, stands_under}
+use Rattle.lol_reasons.proofs.ClimbingLemmas.{stands_by, stands_at_root, stands_under}
 use Rattle.lol_reasons.proofs.node_table.NodeTable.node_above.Goals as goal
 
 pub returns-then-address-roots : goal.returns-then-address-roots

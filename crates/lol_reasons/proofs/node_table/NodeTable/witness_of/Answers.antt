@@ -3,7 +3,7 @@ use Rattle.std.proofs.lemmas.List.{length-map, length-reverse, length-take-le, t
 use Rattle.lol_vm.specs.Machines.{item_shown}
 use Rattle.lol_program.specs.ProgramViews.{program_shown}
 use Rattle.lol_instructions.specs.Tests.{Element}
-use Rattle.lol_reasons.proofs.Climbing.{same_lengths}
+use Rattle.lol_reasons.proofs.ClimbingLemmas.{same_lengths}
 use Rattle.lol_reasons.proofs.Climbs.{Climbs, begins, ends, goes_on, not_lost}
 use Rattle.lol_reasons.proofs.node_table.NodeTable.witness_of.Goals as goal
 

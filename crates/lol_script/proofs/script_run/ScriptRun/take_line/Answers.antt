@@ -10,7 +10,7 @@ use Rattle.lol_script.specs.Scripts.{Script, with_event}
 use Rattle.lol_script.specs.declared.script_run.ScriptRun.{ScriptRun}
 use Rattle.lol_script.specs.declared.lines.Line.TheVariants.{Start, End}
 use Rattle.lol_script.proofs.ReadOn.{at_ok}
-use Rattle.lol_script.proofs.Scripts.{with_bytes-line}
+use Rattle.lol_script.proofs.ScriptLemmas.{with_bytes-line}
 use Rattle.lol_script.proofs.script_run.ScriptRun.take_line.Goals as goal
 
 has_tags : (events : List Event) (event : Event) → events ++ event ∷ [] ≡ [] → ⊥

@@ -1,6 +1,6 @@
 use Rattle.std.proofs.Common.{◌+◌, List, ◌∙◌, subst, sym}
 use Rattle.lol_reasons.specs.Explanations.{Text}
-use Rattle.lol_script.proofs.SelectLines.{AreRead, line_read}
+use Rattle.lol_script.proofs.SelectLineLemmas.{AreRead, line_read}
 use Rattle.lol_script.proofs.select_lines.SelectLines.read.Goals as goal
 
 pub loop-line-preserved : goal.loop-line-preserved

@@ -6,7 +6,7 @@ use Rattle.lol_program.specs.Conditions.{pairs_under}
 use Rattle.lol_program.specs.Sets.{SameMembers}
 use Rattle.lol_script.specs.Lines.{set_by}
 use Rattle.lol_script.specs.Scripts.{SelectLine, pairs_in, with_line, with_selector}
-use Rattle.lol_script.proofs.Scripts.{joins_members, lines_more, not_begun, pairs_more}
+use Rattle.lol_script.proofs.ScriptLemmas.{joins_members, lines_more, not_begun, pairs_more}
 use Rattle.lol_script.proofs.settings.Settings.take.Goals as goal
 
 pub returns-in-Limit-clause-taken : goal.returns-in-Limit-clause-taken

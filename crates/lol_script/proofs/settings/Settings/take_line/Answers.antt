@@ -1,7 +1,7 @@
 use Rattle.std.proofs.Common.{rules, ◌≡◌, ◌≢◌, ◌==◌, [], List, ℕ, Ok, Some, length, ap, ◌∙◌}
 use Rattle.lol_script.specs.declared.lines.Line.TheVariants.{Setting}
 use Rattle.lol_script.proofs.ReadOn.{at_ok}
-use Rattle.lol_script.proofs.Scripts.{with_bytes-line}
+use Rattle.lol_script.proofs.ScriptLemmas.{with_bytes-line}
 use Rattle.lol_script.proofs.settings.Settings.take_line.Goals as goal
 
 pub returns-in_ok-take-in-Ok-Some-Setting-clause-taken : goal.returns-in_ok-take-in-Ok-Some-Setting-clause-taken

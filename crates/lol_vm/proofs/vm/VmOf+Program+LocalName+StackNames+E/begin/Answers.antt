@@ -2,10 +2,11 @@ use Rattle.lol_vm.proofs.Common.{◌≡◌, arith, Err, refl, ap, ◌∙◌, sub
 use Rattle.lol_stack.specs.declared.stack.AddChildError.TheVariants.{CounterFull}
 use Rattle.lol_vm.specs.TriedStarts.{IsTried}
 use Rattle.lol_vm.specs.VmErrors.{refused_child}
-use Rattle.lol_vm.proofs.FreeTags.{free_if, has_none_typed, small_if}
-use Rattle.lol_vm.proofs.TriedStarts.{Trial, most_tried, never_refused, trial_of}
+use Rattle.lol_vm.proofs.FreeTagLemmas.{free_if, has_none_typed, small_if}
+use Rattle.lol_vm.proofs.TriedStartLemmas.{Trial, most_tried, never_refused, trial_of}
 use Rattle.lol_vm.proofs.VmStarts.{none_tried}
-use Rattle.lol_vm.proofs.VmRefusals.{err_is_not_ok, counted_opens_nothing, refused_child_full, refused_child_isnt, same_opens_nothing, stays_unfailed}
+use Rattle.lol_tag_runs.specs.RunLaws.{err_is_not_ok}
+use Rattle.lol_vm.proofs.VmRefusals.{counted_opens_nothing, refused_child_full, refused_child_isnt, same_opens_nothing, stays_unfailed}
 use Rattle.lol_vm.proofs.vm.VmOf+Program+LocalName+StackNames+E.begin.Goals as goal
 
 pub returns-then-self : goal.returns-then-self

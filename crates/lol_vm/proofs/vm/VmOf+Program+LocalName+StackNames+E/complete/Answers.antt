@@ -1,9 +1,9 @@
 use Rattle.lol_vm.proofs.Common.{◌≡◌, false, cond, inr, sym, ap, ◌∙◌, subst, AreRunnable, NeedNoMemory, AreExecuted, AreWithin, IsPointIn, ranges_left, all_ranges, ranges_to_run_in, tried_at}
 use Rattle.std.specs.Result.{IfOk}
 use Rattle.lol_program.specs.ProgramViews.{has_rows}
-use Rattle.lol_vm.specs.SparedRuns.{all_passing, left_at_point, singles}
+use Rattle.lol_tag_runs.specs.SparedRuns.{all_passing, left_at_point, singles}
 use Rattle.lol_vm.specs.TriedStarts.{ranges_to_complete}
-use Rattle.lol_vm.proofs.TagRuns.{of_same}
+use Rattle.lol_tag_runs.specs.RunLaws.{of_same}
 use Rattle.lol_vm.proofs.vm.VmOf+Program+LocalName+StackNames+E.complete.Given as given
 use Rattle.lol_vm.proofs.vm.VmOf+Program+LocalName+StackNames+E.complete.Goals as goal
 

@@ -1,9 +1,9 @@
 use Rattle.lol_vm.proofs.Common.{◌≡◌, true, cond, inr, sym, ap, ◌∙◌, subst, AreRunnable, NeedNoMemory, AreExecuted, AreWithin, IsPointIn, ranges_left, left_ranges, ranges_to_run_in, tried_at}
 use Rattle.std.specs.Result.{IfOk}
 use Rattle.lol_program.specs.ProgramViews.{HasItsRows, has_rows}
-use Rattle.lol_vm.specs.SparedRuns.{all_passing, left_at_point, singles}
+use Rattle.lol_tag_runs.specs.SparedRuns.{all_passing, left_at_point, singles}
 use Rattle.lol_vm.specs.TriedStarts.{ranges_to_complete}
-use Rattle.lol_vm.proofs.TagRuns.{of_same}
+use Rattle.lol_tag_runs.specs.RunLaws.{of_same}
 use Rattle.lol_vm.proofs.vm.VmOf+Program+LocalName+StackNames+E.complete_left.Given as given
 use Rattle.lol_vm.proofs.vm.VmOf+Program+LocalName+StackNames+E.complete_left.Goals as goal
 

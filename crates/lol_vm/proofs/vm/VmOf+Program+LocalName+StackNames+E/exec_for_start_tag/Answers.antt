@@ -5,10 +5,11 @@ use Rattle.lol_vm.specs.declared.error.StartTagError.TheVariants as refusals
 use Rattle.lol_vm.specs.declared.error.VmError.{VmError}
 use Rattle.lol_vm.specs.declared.error.VmError.TheVariants.{CounterFull, Failed, InfoRequest, Memory}
 use Rattle.lol_vm.proofs.CallerLemmas.{charges_both, charges_unopened}
-use Rattle.lol_vm.proofs.FreeTags.{asked_only, limit_only, not_for_memory, void_is_closed, void_unspelled}
-use Rattle.lol_vm.proofs.TriedStarts.{began, begun_answered, begun_complete, begun_due, begun_pending, begun_unfailed, named_so, new_context}
+use Rattle.lol_vm.proofs.FreeTagLemmas.{asked_only, limit_only, not_for_memory, void_is_closed, void_unspelled}
+use Rattle.lol_vm.proofs.TriedStartLemmas.{began, begun_answered, begun_complete, begun_due, begun_pending, begun_unfailed, named_so, new_context}
 use Rattle.lol_vm.proofs.VmStarts.{reported, requested_is}
-use Rattle.lol_vm.proofs.VmRefusals.{error_is, never_both, push_isnt_silent, push_is_limit, refused_alike, refused_as, refused_full_only, refused_isnt_asked, requested_as, requested_ok, requested_refused, not_false, err_is_not_ok, on_err, opens_nothing_both, opens_nothing_of, requested_keeps, same_opens_nothing, stays_unfailed, unfailed_before}
+use Rattle.lol_tag_runs.specs.RunLaws.{err_is_not_ok}
+use Rattle.lol_vm.proofs.VmRefusals.{error_is, never_both, push_isnt_silent, push_is_limit, refused_alike, refused_as, refused_full_only, refused_isnt_asked, requested_as, requested_ok, requested_refused, not_false, on_err, opens_nothing_both, opens_nothing_of, requested_keeps, same_opens_nothing, stays_unfailed, unfailed_before}
 use Rattle.lol_vm.proofs.vm.VmOf+Program+LocalName+StackNames+E.exec_for_start_tag.Goals as goal
 
 pub begin-requires : goal.begin-requires

@@ -3,11 +3,12 @@ use Rattle.lol_memory.specs.declared.limited_vec.PushError.TheVariants as pushes
 use Rattle.lol_vm.specs.Due.{IsDue}
 use Rattle.lol_vm.specs.declared.error.StartTagError.TheVariants as refusals
 use Rattle.lol_vm.proofs.CallerLemmas.{charges_both, charges_unopened}
-use Rattle.lol_vm.proofs.FreeTags.{memory_instead, void_is_closed}
-use Rattle.lol_vm.proofs.TriedStarts.{began, begun_answered, begun_complete, begun_due, begun_pending, named_so, new_context, reported_if, whole_since}
+use Rattle.lol_vm.proofs.FreeTagLemmas.{memory_instead, void_is_closed}
+use Rattle.lol_vm.proofs.TriedStartLemmas.{began, begun_answered, begun_complete, begun_due, begun_pending, named_so, new_context, reported_if, whole_since}
 use Rattle.lol_vm.proofs.VmStarts.{reported}
 use Rattle.lol_vm.proofs.TakenStarts.{answered_since}
-use Rattle.lol_vm.proofs.VmRefusals.{error_is, never_both, refused_push_is, refused_push_isnt, refused_same, not_false, err_is_not_ok, opens_nothing_both, opens_nothing_of, stays_unfailed, unfailed_before}
+use Rattle.lol_tag_runs.specs.RunLaws.{err_is_not_ok}
+use Rattle.lol_vm.proofs.VmRefusals.{error_is, never_both, refused_push_is, refused_push_isnt, refused_same, not_false, opens_nothing_both, opens_nothing_of, stays_unfailed, unfailed_before}
 use Rattle.lol_vm.proofs.vm.VmOf+Program+LocalName+StackNames+E.exec_for_whole_start_tag.Goals as goal
 
 pub begin-requires : goal.begin-requires

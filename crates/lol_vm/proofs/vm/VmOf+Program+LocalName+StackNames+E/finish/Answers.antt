@@ -4,10 +4,11 @@ use Rattle.lol_vm.specs.Due.{IsDue}
 use Rattle.lol_memory.specs.declared.limited_vec.PushError.TheVariants as pushes
 use Rattle.lol_vm.specs.TriedStarts.{left_at, ranges_to_complete}
 use Rattle.lol_vm.specs.Vms.{IsEntered, NeedsRest, OpensNothing}
-use Rattle.lol_vm.proofs.FreeTags.{finished_closed, is_alone_free, is_closed_free, memory_instead, void_is_closed}
+use Rattle.lol_vm.proofs.FreeTagLemmas.{finished_closed, is_alone_free, is_closed_free, memory_instead, void_is_closed}
 use Rattle.lol_vm.proofs.VmFinishes.{answered_now, can_finish, complete, has_room, open_tried, rs, same_after, stopped_there, tried_at_most, x}
 use Rattle.lol_vm.proofs.VmStarts.{IsComplete, reported}
-use Rattle.lol_vm.proofs.VmRefusals.{err_is_not_ok, not_false, on_ok_both, opens_nothing_both, same_opens_nothing}
+use Rattle.lol_tag_runs.specs.RunLaws.{err_is_not_ok}
+use Rattle.lol_vm.proofs.VmRefusals.{not_false, on_ok_both, opens_nothing_both, same_opens_nothing}
 use Rattle.lol_vm.proofs.vm.VmOf+Program+LocalName+StackNames+E.finish.Given as given
 use Rattle.lol_vm.proofs.vm.VmOf+Program+LocalName+StackNames+E.finish.Goals.{After-complete}
 use Rattle.lol_vm.proofs.vm.VmOf+Program+LocalName+StackNames+E.finish.Goals as goal

@@ -1,6 +1,6 @@
 use Rattle.lol_vm.proofs.Common.{sym, ap, ◌∙◌, subst, ◌||◌, selectors}
 use Rattle.lol_program.specs.Asts.{is_with_rows}
-use Rattle.lol_vm.specs.SparedRuns.{IsSparing}
+use Rattle.lol_tag_runs.specs.SparedRuns.{IsSparing}
 use Rattle.lol_vm.proofs.VmRefusals.{new_vm_stands}
 use Rattle.lol_vm.proofs.vm.VmOf+Program+LocalName+StackNames+E.new.Goals as goal
 

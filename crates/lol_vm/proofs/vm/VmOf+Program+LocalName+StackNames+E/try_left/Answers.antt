@@ -2,11 +2,11 @@ use Rattle.lol_vm.proofs.Common.{◌≡◌, true, false, true≢false, cond, Lis
 use Rattle.std.specs.Result.{IfOk}
 use Rattle.lol_program.specs.ProgramViews.{HasItsRows, has_rows}
 use Rattle.lol_rows.specs.Rows.{is_left_by_name}
-use Rattle.lol_vm.specs.SparedRuns.{all_passing, opens_at_once, ranges_by_name, singles}
+use Rattle.lol_tag_runs.specs.SparedRuns.{all_passing, opens_at_once, ranges_by_name, singles}
 use Rattle.lol_instructions.specs.declared.instruction.Instruction.{Instruction}
-use Rattle.lol_vm.specs.declared.tag_runs.Stop.{Stop}
-use Rattle.lol_vm.proofs.TagRuns.{of_same}
-use Rattle.lol_vm.proofs.VmRefusals.{err_is_not_ok}
+use Rattle.lol_tag_runs.specs.declared.tag_runs.Stop.{Stop}
+use Rattle.lol_tag_runs.specs.RunLaws.{of_same}
+use Rattle.lol_tag_runs.specs.RunLaws.{err_is_not_ok}
 use Rattle.lol_vm.proofs.vm.VmOf+Program+LocalName+StackNames+E.try_left.Given as given
 use Rattle.lol_vm.proofs.vm.VmOf+Program+LocalName+StackNames+E.try_left.Goals.{After-try_by_name}
 use Rattle.lol_vm.proofs.vm.VmOf+Program+LocalName+StackNames+E.try_left.Goals as goal

@@ -5,16 +5,16 @@ use Rattle.lol_program.specs.ProgramViews.{has_rows}
 use Rattle.lol_program.specs.declared.program.Program.{Program}
 use Rattle.lol_rows.specs.Rows.{is_left_by_name}
 use Rattle.lol_rows.specs.declared.rows.Rows.{Rows}
-use Rattle.lol_vm.specs.SparedRuns.{all_passing, opens_by_rows, ranges_by_name, singles, stopped_by}
+use Rattle.lol_tag_runs.specs.SparedRuns.{all_passing, opens_by_rows, ranges_by_name, singles, stopped_by}
 use Rattle.lol_instructions.specs.declared.instruction.Instruction.{Instruction}
-use Rattle.lol_vm.specs.declared.tag_runs.RecoveryPoint.TheVariants.{At}
-use Rattle.lol_vm.specs.declared.tag_runs.RecoveryPoint.{RecoveryPoint}
+use Rattle.lol_tag_runs.specs.declared.tag_runs.RecoveryPoint.TheVariants.{At}
+use Rattle.lol_tag_runs.specs.declared.tag_runs.RecoveryPoint.{RecoveryPoint}
 use Rattle.lol_vm.specs.TriedStarts.{IsTried}
-use Rattle.lol_vm.specs.declared.tag_runs.Stop.{Stop}
+use Rattle.lol_tag_runs.specs.declared.tag_runs.Stop.{Stop}
 use Rattle.lol_vm.proofs.Directives.{html_tag}
-use Rattle.lol_vm.proofs.TagRuns.{of_same}
-use Rattle.lol_vm.proofs.TriedStarts.{tried_by_name}
-use Rattle.lol_vm.proofs.VmRefusals.{err_is_not_ok}
+use Rattle.lol_tag_runs.specs.RunLaws.{of_same}
+use Rattle.lol_vm.proofs.TriedStartLemmas.{tried_by_name}
+use Rattle.lol_tag_runs.specs.RunLaws.{err_is_not_ok}
 use Rattle.lol_vm.proofs.vm.VmOf+Program+LocalName+StackNames+E.try_start.Given as given
 use Rattle.lol_vm.proofs.vm.VmOf+Program+LocalName+StackNames+E.try_start.Goals.{After-try_by_name, After-try_left, After-is_some}
 use Rattle.lol_vm.proofs.vm.VmOf+Program+LocalName+StackNames+E.try_start.Goals as goal

@@ -1,0 +1,4 @@
+mod Common
+mod Finding
+mod InstructionLists
+mod RangeSteps
