@@ -26,7 +26,7 @@ use Rattle.lol_vm.specs.Laws.{ids_of}
 use Rattle.lol_vm.specs.Views.{match_of, selectors}
 use Rattle.lol_vm.specs.Vms.{Vm, Stands, data_in, is_asked_for, open_after}
 use Rattle.lol_stack.specs.Stacks.{items_in}
-use Rattle.lol_vm.proofs.CallerLemmas.{many_open}
+use Rattle.lol_vm.specs.VmLaws.{StandingCounts}
 use Rattle.lol_matcher.specs.Answering as answering
 use Rattle.lol_matcher.specs.Answering.{Answers, IfWaits, IsAnsweredAfter, IsFinishedAs, OpensFor, OpensStart, with_ended, with_told}
 use Rattle.lol_matcher.specs.Building.{Building, started_with}
@@ -125,8 +125,8 @@ left_numbered name elements numbers n many are =
     ∙ ap (λ k. reverse (take k numbers)) (length-map (open_after name elements) (λ (e : Element). e.number) ∙ sym many)
 
 -- as many data as elements are open
-pub as_many : {E : Type 0} (s : Selectors) (esi : Bool) (vm : Vm E) (events : List Event) → Stands s esi vm events → length (data_in vm) ≡ length (document s esi events).open_elements
-as_many s esi vm events stands = length-map (items_in vm.stack) _ ∙ many_open s esi vm events stands
+pub as_many : {E : Type 0} → StandingCounts E → (s : Selectors) (esi : Bool) (vm : Vm E) (events : List Event) → Stands s esi vm events → length (data_in vm) ≡ length (document s esi events).open_elements
+as_many counts s esi vm events stands = length-map (items_in vm.stack) _ ∙ (counts s esi vm events stands).0
 
 -- 3. Reasons
 

@@ -8,6 +8,7 @@ use lol_matcher::{
     AuxStartTagInfo, ElementValue, MatchInfo, Matcher, MatcherError, Namespace, Started, Tries,
 };
 use lol_reasons::{Explainer, NumberingError, Reason, Texts};
+use lol_vm::vm_laws::standing_counts;
 use std::alloc::{AllocError, Global};
 use std::marker::Model;
 
@@ -341,6 +342,7 @@ impl<T: Drop> ExplainingMatcher<T> {
             (drop (length (open_after name.now self.old.items.open_elements)) self.old.items.kept) handler.new }
     {
         plain_laws();
+        standing_counts::<ElementValue<Option<T>>>();
         self.matcher.end_with(name, handler);
         self.notes.count();
         self.notes.close(self.matcher.machine().open_elements());

@@ -6,17 +6,18 @@ use Rattle.lol_base.specs.StartTags.{StartTag}
 use Rattle.lol_memory.specs.Limiter.{Limiter}
 use Rattle.lol_memory.specs.Slots.{slots}
 use Rattle.lol_program.specs.Paths.{Selectors}
-use Rattle.lol_stack.specs.Stacks.{list_in}
+use Rattle.lol_instructions.specs.Counters.{full_count}
+use Rattle.lol_stack.specs.Stacks.{last_count, list_in}
 use Rattle.lol_vm.specs.Answers.{after, document, is_dropped}
 use Rattle.lol_vm.specs.AnswerLaws.{document_push, longest_push}
 use Rattle.lol_vm.specs.Documents.{Document, empty, element_of, children_of, index_of, outer_part, after_start, after_end}
 use Rattle.lol_vm.specs.Events.{Event, Start, End, has_content}
 use Rattle.lol_vm.specs.Refusals.{greatest_count, longest}
 use Rattle.lol_vm.specs.Standing.{DocumentsAreOrdered}
-use Rattle.lol_vm.specs.VmLaws.{SlotsAreOfDepth}
+use Rattle.lol_vm.specs.VmLaws.{SlotsAreOfDepth, StandingCounts}
 use Rattle.lol_vm.specs.Vms.{Vm, Stands, stack_in, slots_charged, slot_bytes}
 use Rattle.lol_matcher.specs.Keeping.{Runs, IsCharged}
-use Rattle.lol_vm.proofs.CallerLemmas.{children_after, many_open, position_before}
+use Rattle.lol_vm.specs.Openings.{children_after, position_before, room_for, no_room_for}
 use Rattle.lol_matcher.proofs.Refusals.{IsChargedFor}
 
 -- 1. Documents, one event on
@@ -30,17 +31,25 @@ module _ (s : Selectors) (esi : Bool) where
 
 -- 2. A machine that runs
 
-module _ {E : Type 0} (depths : SlotsAreOfDepth E) (ordered : DocumentsAreOrdered) (s : Selectors) (esi : Bool) where
+module _ {E : Type 0} (depths : SlotsAreOfDepth E) (counts : StandingCounts E) (ordered : DocumentsAreOrdered) (s : Selectors) (esi : Bool) where
   pub charged_for : (events : List Event) (vm : Vm E) (now : Limiter) → Runs s esi events vm now → IsChargedFor (document s esi events) (longest s esi events) (list_in (stack_in vm)) now
   charged_for events vm now runs = record {
     enough = (ordered s esi events).enough;
     some = runs.some;
     word = runs.word;
-    many = many_open s esi vm events runs.stands;
+    many = (counts s esi vm events runs.stands).0;
     charged = depths s esi vm events runs.stands;
     usage = runs.charged;
     within = runs.within;
   }
+
+  -- a counter that isn't full has room for the next child, and a full one hasn't
+  module _ (events : List Event) (vm : Vm E) (now : Limiter) (runs : Runs s esi events vm now) (tag : StartTag) where
+    pub has_place : (last_count (stack_in vm) ≡ full_count → ⊥) → (element_of (document s esi events) tag).position ≤ greatest_count
+    has_place = room_for (document s esi events) (last_count (stack_in vm)) tag ((counts s esi vm events runs.stands).1 tag) runs.countable
+
+    pub has_no_place : last_count (stack_in vm) ≡ full_count → greatest_count < (element_of (document s esi events) tag).position
+    has_no_place = no_room_for (document s esi events) (last_count (stack_in vm)) tag ((counts s esi vm events runs.stands).1 tag)
 
   -- the same before a tag that was counted and not opened
   module _ (events : List Event) (tag : StartTag) (vm : Vm E) (now : Limiter) (runs : Runs s esi (events ++ Start tag ∷ []) vm now) (dropped : is_dropped s (element_of (document s esi events) tag) (document s esi events).open_elements ≡ true) where
@@ -65,7 +74,7 @@ module _ {E : Type 0} (depths : SlotsAreOfDepth E) (ordered : DocumentsAreOrdere
       enough = (ordered s esi events).enough;
       some = runs.some;
       word = runs.word;
-      many = many_open s esi vm (events ++ Start tag ∷ []) runs.stands ∙ ap (λ (d : Document). length d.open_elements) with_child;
+      many = (counts s esi vm (events ++ Start tag ∷ []) runs.stands).0 ∙ ap (λ (d : Document). length d.open_elements) with_child;
       charged = depths s esi vm (events ++ Start tag ∷ []) runs.stands ∙ ap (slots (slot_bytes vm)) same_longest;
       usage = runs.charged;
       within = runs.within;

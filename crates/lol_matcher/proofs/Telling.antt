@@ -15,10 +15,10 @@ use Rattle.lol_vm.specs.Events.{Event, Start, has_content}
 use Rattle.lol_vm.specs.Refusals.{greatest_count, longest}
 use Rattle.lol_vm.specs.Standing.{DocumentsAreOrdered}
 use Rattle.lol_vm.specs.Views.{match_of}
-use Rattle.lol_vm.specs.VmLaws.{PendingStands, SlotsAreOfDepth}
+use Rattle.lol_vm.specs.VmLaws.{PendingStands, SlotsAreOfDepth, StandingCounts}
 use Rattle.lol_vm.specs.Vms.{Vm, ChargesSlots, Stands, IsAnswered, IsPending, IsTriedAtMost, data_in, info_of, tries_in, stack_in, slot_bytes}
 use Rattle.lol_vm.specs.declared.error.AuxStartTagInfoRequest.{AuxStartTagInfoRequest}
-use Rattle.lol_vm.proofs.CallerLemmas.{countable_after, has_content_if, opens_nothing, unfinished_is}
+use Rattle.lol_vm.specs.Openings.{countable_after, has_content_if, opens_nothing, unfinished_is}
 use Rattle.lol_matcher.specs.Answering.{GrowsBy, Kept, KeepsOne}
 use Rattle.lol_matcher.specs.Keeping.{ClearsOpened, IsToldAs, IsAskedFor, IsCharged, IsUnreported, KeepsRunning, Runs, allowed, ids_of}
 use Rattle.lol_matcher.proofs.Charges.{charged_after}
@@ -34,7 +34,7 @@ same_matches (m ∷ matched) = ap (λ ms. m ∷ ms) (same_matches matched)
 
 -- 2. A machine that runs
 
-module _ {E : Type 0} (depths : SlotsAreOfDepth E) (ordered : DocumentsAreOrdered) (s : Selectors) (esi : Bool) (events : List Event) (tag : StartTag) (old new : Vm E) (now later : Limiter)
+module _ {E : Type 0} (depths : SlotsAreOfDepth E) (counts : StandingCounts E) (ordered : DocumentsAreOrdered) (s : Selectors) (esi : Bool) (events : List Event) (tag : StartTag) (old new : Vm E) (now later : Limiter)
     (is : IsChargedFor (document s esi events) (longest s esi events) (list_in (stack_in old)) now) (room : (element_of (document s esi events) tag).position ≤ greatest_count)
     (countable : (parent : _) → children_of parent (document s esi events).children ≤ greatest_count) (unlimited : opens_in s esi (document s esi events) tag ≡ true → IsLimited (list_in (stack_in old)) now → ⊥)
     (bytes : slot_bytes new ≡ slot_bytes old) (maximum : later.maximum ≡ now.maximum) (charged : IsCharged new later) where
@@ -42,20 +42,20 @@ module _ {E : Type 0} (depths : SlotsAreOfDepth E) (ordered : DocumentsAreOrdere
   runs_after stands =
       let d = document s esi events in
       let opens = opens_in s esi d tag in
-      runs_on depths ordered s esi events (Start tag) old new now later is.some is.word stands bytes maximum charged
+      runs_on depths counts ordered s esi events (Start tag) old new now later is.some is.word stands bytes maximum charged
       (fits s esi is opens tag unlimited) (countable_after d tag opens countable room)
 
 -- Its attributes are asked for.
-pub asked_for : {T : Type 0} → SlotsAreOfDepth (Kept T) → DocumentsAreOrdered → PendingStands (Kept T)
+pub asked_for : {T : Type 0} → SlotsAreOfDepth (Kept T) → StandingCounts (Kept T) → DocumentsAreOrdered → PendingStands (Kept T)
     → (s : Selectors) (esi : Bool) (events : List Event) (tag : StartTag) (old new : Vm (Kept T)) (now later : Limiter) → Runs s esi events old now → (element_of (document s esi events) tag).position ≤ greatest_count
     → slot_bytes new ≡ slot_bytes old → later.maximum ≡ now.maximum → IsCharged new later
     → (request : AuxStartTagInfoRequest (Kept T)) → IsPending ids_of s esi events tag new request → IsAskedFor s esi events tag (allowed old now) new later request
-asked_for depths ordered dropped s esi events tag old new now later runs room bytes maximum charged request pending =
-    let is = charged_for depths ordered s esi events old now runs in
+asked_for depths counts ordered dropped s esi events tag old new now later runs room bytes maximum charged request pending =
+    let is = charged_for depths counts ordered s esi events old now runs in
     record {
       pending = pending;
       fits = λ none. not_refused s esi is tag room (λ opens limited. opens_nothing s esi events tag pending.asks none opens);
-      runs = λ none. runs_after depths ordered s esi events tag old new now later is room runs.countable (λ opens limited. opens_nothing s esi events tag pending.asks none opens) bytes maximum charged
+      runs = λ none. runs_after depths counts ordered s esi events tag old new now later is room runs.countable (λ opens limited. opens_nothing s esi events tag pending.asks none opens) bytes maximum charged
           (subst (λ t. Stands s esi new (events ++ Start t ∷ [])) (unfinished_is tag none) (dropped ids_of s esi events tag new request pending));
     }
 
@@ -66,7 +66,7 @@ pub record WasAnswered {T : Type 0} (s : Selectors) (esi : Bool) (events : List 
   pub leaves : {items : List MatchInfo} → items ≡ map info_of matched → (opened ≡ has_content esi tag) × KeepsOne (has_content esi tag) items (data_in old) (data_in new)
   pub grows : GrowsBy (has_content esi tag) (data_in old) (data_in new)
 
-module _ {T F : Type 0} {step : F → MatchInfo → Unit {0} → F → Type 0} {f g : F} (depths : SlotsAreOfDepth (Kept T)) (ordered : DocumentsAreOrdered) (s : Selectors) (esi : Bool) (events : List Event) (tag : StartTag) {asked : Bool} {old mid new : Vm (Kept T)} {now later : Limiter}
+module _ {T F : Type 0} {step : F → MatchInfo → Unit {0} → F → Type 0} {f g : F} (depths : SlotsAreOfDepth (Kept T)) (counts : StandingCounts (Kept T)) (ordered : DocumentsAreOrdered) (s : Selectors) (esi : Bool) (events : List Event) (tag : StartTag) {asked : Bool} {old mid new : Vm (Kept T)} {now later : Limiter}
     (is : IsChargedFor (document s esi events) (longest s esi events) (list_in (stack_in old)) now) (room : (element_of (document s esi events) tag).position ≤ greatest_count)
     (countable : (parent : _) → children_of parent (document s esi events).children ≤ greatest_count) (told : IsWithinLimit (has_content esi tag) old now × IsAnswered ids_of step s esi events tag asked old mid f g)
     (charges : ChargesSlots old mid now later) {before : ℕ} (many : before ≡ length (data_in old)) {opened : Bool} (clears : ClearsOpened before opened mid new) where
@@ -94,7 +94,7 @@ module _ {T F : Type 0} {step : F → MatchInfo → Unit {0} → F → Type 0} {
   kept : IsUnreported s esi events tag (allowed old now) new later
   kept = record {
     fits = not_refused s esi is tag room unlimited;
-    runs = runs_after depths ordered s esi events tag old new now later is room countable unlimited bytes maximum stays_charged stands_on;
+    runs = runs_after depths counts ordered s esi events tag old new now later is room countable unlimited bytes maximum stays_charged stands_on;
   }
 
   pub was_answered : WasAnswered s esi events tag asked told.1.matched opened old new now later

@@ -1,14 +1,14 @@
 //! Laws, each the contract of a function that takes and gives nothing.
 
 ghost use Rattle.lol_vm.specs.Standing.{DocumentsAreOrdered};
-ghost use Rattle.lol_vm.specs.VmLaws.{DataChangeNothing, DataKeepOpen, DataKeepRequests, LastDataAreLent, LastDataChange, PendingStands, SlotsAreOfDepth, StandingHasOpen};
+ghost use Rattle.lol_vm.specs.VmLaws.{DataChangeNothing, DataKeepOpen, DataKeepRequests, LastDataAreLent, LastDataChange, PendingStands, SlotsAreOfDepth, StandingCounts, StandingHasOpen};
 ghost use Rattle.lol_run_laws.specs.AskedRuns.{AskedRunsAnswerAlike, ToldGoesOn};
 
 use lol_run_laws::laws::asked_runs_answer_alike;
 use lol_vm::machine_laws::documents_are_ordered;
 use lol_vm::vm_laws::{
     data_change_nothing, dropped_requests_stand, last_data_are_lent, slots_are_of_depth,
-    standing_has_open,
+    standing_counts, standing_has_open,
 };
 
 /// A matcher that is told of each tag of a list, and of the attributes of a start tag if it asks for them, answers as a run over that list
@@ -23,11 +23,13 @@ pub fn calls_answer_alike()
 /// What a machine has of the document of the events that it stands for.
 pub(crate) fn run_laws<E>()
     ensures depths { SlotsAreOfDepth E }
+    ensures counts { StandingCounts E }
     ensures ordered { DocumentsAreOrdered }
     ensures dropped { PendingStands E }
     ensures has_open { StandingHasOpen E }
 {
     slots_are_of_depth::<E>();
+    standing_counts::<E>();
     documents_are_ordered();
     dropped_requests_stand::<E>();
     standing_has_open::<E>();

@@ -16,6 +16,7 @@ pub fn worked_numbers()
     ensures too_great { number_up_to 4294967295 (codes "4294967296") ≡ None }
     ensures greatest_limit { line_at (codes "limit\t18446744073709551615") ≡ Some (SetLimit 18446744073709551615) }
     ensures limit_too_great { line_at (codes "limit\t18446744073709551616") ≡ None }
+    ensures limit_tab { line_at (codes "limit\t5\t") ≡ None }
 {}
 
 /// Lines before the first tag line.
@@ -35,13 +36,16 @@ pub fn worked_settings()
     ensures rows_tab { line_at (codes "rows\t") ≡ None }
     ensures rows_two { line_at (codes "rows\t1\t2") ≡ None }
     ensures rows_capital { line_at (codes "Rows") ≡ None }
-    ensures limit_tab { line_at (codes "limit\t5\t") ≡ None }
+    ensures capital { line_at (codes "ESI") ≡ None }
+{}
+
+/// Lines of selectors.
+pub fn worked_selects()
     ensures no_text { line_at (codes "select\t0") ≡ None }
     ensures empty_text { line_at (codes "select\t0\t") ≡ Some (Select 0 []) }
     ensures text_with_tabs { line_at (codes "select\t12\ta\tb\t") ≡ Some (Select 12 (codes "a\tb\t")) }
     ensures no_id { line_at (codes "select\t\ta") ≡ None }
     ensures no_utf8 { line_at (115 ∷ 101 ∷ 108 ∷ 101 ∷ 99 ∷ 116 ∷ 9 ∷ 48 ∷ 9 ∷ 255 ∷ []) ≡ None }
-    ensures capital { line_at (codes "ESI") ≡ None }
 {}
 
 /// Tag lines.
@@ -94,6 +98,10 @@ pub fn worked_outputs()
         ≡ written (codes "start\t0/\tasked\n") Good }
     ensures esi { output (codes "esi\nselect\t0\t*\nstart\thtml\tesi:include\nstart\thtml\tp\nend\tesi:include\n")
         ≡ written (codes "start\t0/\nstart\t0\nend\t-\n") Good }
+{}
+
+/// Scripts with a bad line.
+pub fn worked_bad_lines()
     ensures bad_selector { output (codes "select\t0\tdiv + span")
         ≡ written (codes "bad line 1: UnsupportedCombinator(+)\n") BadLine }
     ensures empty_selector { output (codes "select\t0\t") ≡ written (codes "bad line 1: EmptySelector\n") BadLine }

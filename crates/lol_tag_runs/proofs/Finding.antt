@@ -1,5 +1,5 @@
 -- What rows find of ranges, one range after the other.
-use Rattle.lol_tag_runs.proofs.Common.{◌≡◌, ℕ, suc, ◌+◌, ◌-◌, ◌<◌, ◌≤◌, Bool, false, ◌||◌, list_any, List, [], ◌∷◌, ◌++◌, length, take, drop, get_or, drop-cons, sym, ap, ◌∙◌, arith, Range, append-nil, take-append-drop, take_all, addresses, all_addresses}
+use Rattle.lol_tag_runs.proofs.Common.{◌≡◌, ℕ, ◌+◌, ◌-◌, ◌<◌, ◌≤◌, Bool, false, ◌||◌, list_any, List, [], ◌∷◌, ◌++◌, length, take, drop, get_or, sym, ap, ◌∙◌, arith, Range, append-nil, take-append-drop, take_all, addresses, all_addresses}
 use Rattle.std.proofs.lemmas.List.{length-append, take_more}
 use Rattle.std.proofs.lemmas.Grind.{flat_map-append}
 use Rattle.std.proofs.lemmas.List.FromFn.{length-range_with_len}
@@ -21,17 +21,15 @@ use Rattle.lol_rows.specs.Rows.{hash_by, is_left_by_keys, kind_for, leaves_seen,
 use Rattle.lol_stack.specs.WithRange.{no_range}
 use Rattle.lol_tag_runs.specs.SparedRuns.{all_passing}
 use Rattle.lol_tag_runs.specs.SparedLaws.{any_append, passing_few}
+use Rattle.lol_tag_runs.proofs.RangeSteps.{first_left}
 
 module _ (p : Instruction → Bool) (instructions : List Instruction) (ranges : List (Range ℕ)) where
   pub found_all : (i : ℕ) → length ranges ≤ i → all_passing p instructions (take i ranges) ≡ all_passing p instructions ranges
   found_all i all = ap (all_passing p instructions) (take_all i ranges all)
 
   module _ (i : ℕ) (r : Range ℕ) (within : i < length ranges) (at : r ≡ get_or ranges i no_range) where
-    first_left : drop i ranges ≡ r ∷ drop (suc i) ranges
-    first_left = drop-cons ranges i no_range within ∙ ap (λ x. x ∷ drop (suc i) ranges) (sym at)
-
-    parts : ranges ≡ take i ranges ++ r ∷ drop (suc i) ranges
-    parts = sym (take-append-drop i ranges) ∙ ap (λ rs. take i ranges ++ rs) first_left
+    parts : ranges ≡ take i ranges ++ r ∷ drop (i + 1) ranges
+    parts = sym (take-append-drop i ranges) ∙ ap (λ rs. take i ranges ++ rs) (first_left ranges i r within at)
 
     pub found_more : all_passing p instructions (take (i + 1) ranges) ≡ all_passing p instructions (take i ranges) ++ passing p instructions r
     found_more =
@@ -43,8 +41,8 @@ module _ (p : Instruction → Bool) (instructions : List Instruction) (ranges : 
     found_room =
         let front = passing_few p instructions (take i ranges) in
         let here = length-range_with_len r.start (r.end - r.start) in
-        let all = ap (λ rs. length (all_addresses rs)) parts ∙ ap length (flat_map-append addresses (take i ranges) (r ∷ drop (suc i) ranges)) ∙ length-append (all_addresses (take i ranges)) (all_addresses (r ∷ drop (suc i) ranges)) in
-        let back = length-append (addresses r) (all_addresses (drop (suc i) ranges)) in
+        let all = ap (λ rs. length (all_addresses rs)) parts ∙ ap length (flat_map-append addresses (take i ranges) (r ∷ drop (i + 1) ranges)) ∙ length-append (all_addresses (take i ranges)) (all_addresses (r ∷ drop (i + 1) ranges)) in
+        let back = length-append (addresses r) (all_addresses (drop (i + 1) ranges)) in
         omega (arith, front, here, all, back)
 
     -- where none of the ranges before has one that passes, nor has this one

@@ -8,24 +8,27 @@ use Rattle.lol_tag_runs.proofs.InstructionLists.{is_lent, length_parts, length_s
 
 -- 1. The ranges from one of them on
 
+pub first_left : (ranges : List (Range ℕ)) (k : ℕ) (r : Range ℕ) → k < length ranges → r ≡ get_or ranges k no_range → drop k ranges ≡ r ∷ drop (k + 1) ranges
+first_left ranges k r within is =
+    let next : suc k ≡ k + 1 = omega arith in
+    drop-cons ranges k no_range within ∙ (λ i. sym is i ∷ drop (next i) ranges)
+
 module _ (instructions : List Instruction) (ranges : List (Range ℕ)) (k : ℕ) (r : Range ℕ) (within : k < length ranges) (is : r ≡ get_or ranges k no_range) where
-  pub first_left : drop k ranges ≡ r ∷ drop (k + 1) ranges
-  first_left =
-      let next : suc k ≡ k + 1 = omega arith in
-      drop-cons ranges k no_range within ∙ (λ i. sym is i ∷ drop (next i) ranges)
+  abbrev first : drop k ranges ≡ r ∷ drop (k + 1) ranges
+  first = first_left ranges k r within is
 
   module _ {now : Tries} (runs : AreRunnable instructions (drop k ranges) now) (part : List Instruction) (lent : IsInsideOf instructions r → HasTriesLeft now (r.end - r.start) → part ≡ instructions_at instructions r) where
     pub part_is : part ≡ instructions_at instructions r
-    part_is = is_lent instructions first_left runs part lent
+    part_is = is_lent instructions first runs part lent
 
     pub length_next : length (all_at instructions (take (k + 1) ranges)) ≡ length (all_at instructions (take k ranges)) + length part
-    length_next = omega (arith, length_parts instructions ranges k, length_parts instructions ranges (k + 1), length_split instructions first_left part part_is)
+    length_next = omega (arith, length_parts instructions ranges k, length_parts instructions ranges (k + 1), length_split instructions first part part_is)
 
     -- at most so many are tried by names, up to this range and in it
     pub tried_within : (s : Sight) (old new : Tries) → names_counted now ≡ names_counted old + length (all_at instructions (take k ranges)) → attributes_counted now ≡ attributes_counted old
         → names_counted new ≤ names_counted now + length part → attributes_counted new ≡ attributes_counted now → AreWithin s instructions ranges old new 0
     tried_within s old new names attributes names_bound same =
-        record { names = omega (arith, names, names_bound, length_split instructions first_left part part_is, length_parts instructions ranges k); attributes = omega (arith, attributes, same) }
+        record { names = omega (arith, names, names_bound, length_split instructions first part part_is, length_parts instructions ranges k); attributes = omega (arith, attributes, same) }
 
 -- 2. The rest of a range, and then the ranges after it
 

@@ -2,7 +2,7 @@
 use Rattle.lol_vm.proofs.Common.{◌≡◌, ℕ, true, List, ◌↔◌, Contains, Range, Element, is_html, Selectors, Path, ascending_once, matching_ids, asks, ascending_is_determined, ascending_ascends, pairs_from_ascends, matching_ids_ascend, among_ascending, ascending_among, all_addresses, AreClosed, IsProgramOf, HoldOnce, context_of, among_from_contains, contains_from_among, starts_open, ◌∙◌}
 use Rattle.lol_program.specs.Programs.{Program}
 use Rattle.lol_vm.proofs.Counted.{Tried}
-use Rattle.lol_vm.specs.TriedLaws.{NotAtOnce, asks_tried}
+use Rattle.lol_vm.proofs.KeysLoseNothing.{NotAtOnce, asks_tried}
 use Rattle.lol_vm.proofs.Gathered.{runs_give_reports}
 use Rattle.lol_vm.proofs.Stops.{left_by_names, stopped_starts_are_whole}
 

@@ -6,7 +6,8 @@ use Rattle.lol_css.specs.declared.selector.Combinator.TheVariants.{Child, Descen
 use Rattle.lol_program.specs.Programs.{Instruction, Program}
 use Rattle.lol_vm.proofs.Held.{instruction_at, address_of_node, range_of_reached, one_owner}
 use Rattle.lol_vm.proofs.Counted.{Tried, path_held, held_at}
-use Rattle.lol_vm.specs.TriedLaws.{matching_tried, tried_left}
+use Rattle.lol_vm.specs.TriedLaws.{tried_left}
+use Rattle.lol_vm.proofs.KeysLoseNothing.{matching_tried}
 use Rattle.lol_program.specs.NodeOnceLaws.{AllPairs-from_Distinct}
 
 module _ {A : Type 0} (what : Instruction → List A) (e : Element) where

@@ -25,4 +25,5 @@ pub mod StackCounting
 pub mod GatheringLemmas
 pub mod StackEnds
 pub mod InstructionAddresses
-pub mod CallerLemmas
+mod Charging
+mod KeysLoseNothing

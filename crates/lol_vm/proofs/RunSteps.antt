@@ -1,12 +1,13 @@
 -- What one event does to a run.
-use Rattle.lol_vm.proofs.Common.{◌≡◌, ℕ, suc, ◌+◌, ◌-◌, ◌*◌, ◌≤◌, ◌<◌, ◌^◌, Bool, true, false, List, [], ◌∷◌, ◌++◌, length, map, take, drop, reverse, Option, Some, None, refl, sym, ap, ◌∙◌, subst, arith, max, nat_lt, if◌then◌else◌, nat_tests, length-map, length-drop, length-reverse, take_at, drop_at, StartTag, IsLimited, Limiter, charged, full_count, Selectors, Element, after, document, Document, empty, element_of, children_of, closed, index_of, inner_part, after_start, after_end, Event, Start, End, Follows, IsCharged, IsRefusedFor, Stops, opens, refusal_after, StartedElement, Cause, Limit, Counter, longest, exceeds, greatest_count, list_in, last_count, Vm, Stands, stack_in, data_in, slots_charged, slot_bytes, open_after}
+use Rattle.lol_vm.proofs.Common.{◌≡◌, ℕ, suc, ◌+◌, ◌-◌, ◌*◌, ◌≤◌, ◌<◌, ◌^◌, Bool, true, false, List, [], ◌∷◌, ◌++◌, length, map, take, drop, reverse, Option, Some, None, refl, sym, ap, ◌∙◌, subst, arith, max, nat_lt, if◌then◌else◌, nat_tests, length-map, length-drop, length-reverse, take_at, drop_at, StartTag, IsLimited, Limiter, charged, full_count, Selectors, Element, after, document, Document, empty, element_of, children_of, closed, index_of, inner_part, after_start, after_end, Event, Start, End, Follows, IsCharged, IsRefusedFor, Stops, opens, refusal_after, StartedElement, Cause, Limit, Counter, longest, exceeds, greatest_count, items_in, list_in, last_count, Vm, Stands, stack_in, data_in, slots_charged, slot_bytes, open_after}
 use Rattle.std.specs.List.{take-map, drop-map}
 use Rattle.lol_memory.specs.Slots.{slots}
 use Rattle.lol_vm.specs.RunRefusals.{allowance_of}
 use Rattle.lol_vm.specs.declared.events.RunCause.{RunCause}
 use Rattle.lol_vm.specs.declared.events.RunCause.TheVariants.{MemoryLimitExceeded, CounterFull, Memory}
 use Rattle.lol_vm.proofs.Runs.{cut_reverse}
-use Rattle.lol_vm.proofs.CallerLemmas.{countable_after, many_open, no_room_for, room_for}
+use Rattle.lol_vm.specs.Openings.{countable_after, no_room_for, room_for}
+use Rattle.lol_vm.proofs.StackCounting.{standing_counts}
 use Rattle.lol_vm.proofs.Children.{closed_count, documents_are_ordered, outer_is}
 use Rattle.lol_vm.specs.ChargeLaws.{slots_rise, stays_within, passes_maximum}
 use Rattle.lol_vm.proofs.RefusedRuns.{fits_on}
@@ -28,6 +29,9 @@ module _ (s : Selectors) (esi : Bool) (item_bytes : ℕ) (before : Limiter) (vm 
   depth : slots_charged vm ≡ slots item_bytes most
   depth = slots_are_of_depth s esi vm events f.stands ∙ ap (λ n. slots n most) f.charged.0
 
+  counts : (length (items_in vm.stack) ≡ length d.open_elements) × ((tag : StartTag) → (element_of d tag).position ≡ last_count vm.stack + 1)
+  counts = standing_counts s esi vm events f.stands
+
   within : before.usage + slots item_bytes most * item_bytes ≤ before.maximum
   within = subst (λ n. before.usage + n * item_bytes ≤ before.maximum) depth f.within
 
@@ -46,7 +50,7 @@ module _ (s : Selectors) (esi : Bool) (item_bytes : ℕ) (before : Limiter) (vm 
   stays true tag unlimited =
       let many : suc (length d.open_elements) ≡ length d.open_elements + 1 = omega arith in
       subst (λ n. before.usage + slots item_bytes (max most n) * item_bytes ≤ before.maximum) (sym many)
-      (stays_within item_bytes (length d.open_elements) most enough (list_in (stack_in vm)) now before f.some f.word f.charged.0 (many_open s esi vm events f.stands) depth
+      (stays_within item_bytes (length d.open_elements) most enough (list_in (stack_in vm)) now before f.some f.word f.charged.0 counts.0 depth
       (ap (λ (l : Limiter). l.maximum) f.charged.1) (ap (λ (l : Limiter). l.usage) f.charged.1 ∙ ap (λ n. before.usage + n * item_bytes) depth) within (unlimited refl))
   stays false tag unlimited = subst (λ n. before.usage + slots item_bytes n * item_bytes ≤ before.maximum) no_more within
 
@@ -54,12 +58,12 @@ module _ (s : Selectors) (esi : Bool) (item_bytes : ℕ) (before : Limiter) (vm 
   passes tag limited =
       let many : suc (length d.open_elements) ≡ length d.open_elements + 1 = omega arith in
       subst (λ n. before.maximum < before.usage + slots item_bytes (max most n) * item_bytes) (sym many)
-      (passes_maximum item_bytes (length d.open_elements) most enough (list_in (stack_in vm)) now before f.some f.word f.charged.0 (many_open s esi vm events f.stands) depth
+      (passes_maximum item_bytes (length d.open_elements) most enough (list_in (stack_in vm)) now before f.some f.word f.charged.0 counts.0 depth
       (ap (λ (l : Limiter). l.maximum) f.charged.1) (ap (λ (l : Limiter). l.usage) f.charged.1 ∙ ap (λ n. before.usage + n * item_bytes) depth) limited)
 
   -- a count that isn't full is below the greatest
   countable : (last_count (stack_in vm) ≡ full_count → ⊥) → (tag : StartTag) → (element_of d tag).position ≤ greatest_count
-  countable room tag = room_for s esi vm events f.stands f.countable room tag
+  countable room tag = room_for d (last_count vm.stack) tag (counts.1 tag) f.countable room
 
   abbrev refusal_by : Bool → Bool → Option Cause
   refusal_by full over = if full then Some Counter else (if over then Some Limit else None)
@@ -82,7 +86,7 @@ module _ (s : Selectors) (esi : Bool) (item_bytes : ℕ) (before : Limiter) (vm 
       let over = subst (λ b. before.maximum < before.usage + slots item_bytes (max most (length (after_start d tag b).open_elements)) * item_bytes) (sym h.0) (passes tag h.1) in
       tests tag false true (grind (arith, nat_tests, position)) (grind (arith, nat_tests, over))
   refused_for CounterFull tag h =
-      let full = no_room_for s esi vm events f.stands h tag in
+      let full = no_room_for d (last_count vm.stack) tag (counts.1 tag) h in
       tests tag true _ (grind (arith, nat_tests, full)) refl
   refused_for Memory tag h =
       let position = countable h.0 tag in (

@@ -21,7 +21,8 @@ use Rattle.lol_tag_runs.specs.SparedRuns.{all_passing, single, singles, spared}
 use Rattle.lol_tag_runs.specs.SparedLaws.{any_append, passing_all, passing_few}
 use Rattle.lol_vm.proofs.Counted.{Tried}
 use Rattle.lol_vm.proofs.Held.{instruction_at, address_of_node}
-use Rattle.lol_vm.specs.TriedLaws.{NotAtOnce, tried_left}
+use Rattle.lol_vm.specs.TriedLaws.{tried_left}
+use Rattle.lol_vm.proofs.KeysLoseNothing.{NotAtOnce}
 
 -- 1. Addresses as ranges
 

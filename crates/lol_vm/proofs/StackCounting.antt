@@ -1,5 +1,5 @@
 -- Stacks that count children.
-use Rattle.lol_vm.proofs.Common.{◌≡◌, ℕ, ◌+◌, ◌-◌, ◌<◌, ◌≤◌, Bool, true, false, cond, List, [], ◌∷◌, ◌++◌, length, map, reverse, Option, Some, None, refl, sym, ap, ◌∙◌, subst, arith, ◌&&◌, ◌==◌, count_by, slice_get, slice_set, unwrap_or, if◌then◌else◌, option_map, length-map, length-reverse, map-append, reverse-append, Decides-eqb, and_parts, same_bool, count_by-cons, same_name, lowercased, Name, local_name, same_local_name, StartTag, full_count, Element, Document, after_start, parent_of, same_parent, children_of, typed_children_of, AreTyped, AreTypedIf, CountersArePositions, Descend, HasCounted, items_in, typed_in, last_count, count_or, counted_in, counted_if, counted_item, with_typed, count_by_type, root_count, slots_in, item_bytes_in, item_shown, items_shown, children_shown, StackItemOf, StackOf, StackNames}
+use Rattle.lol_vm.proofs.Common.{◌≡◌, ℕ, ◌+◌, ◌-◌, ◌<◌, ◌≤◌, Bool, true, false, cond, List, [], ◌∷◌, ◌++◌, length, map, reverse, Option, Some, None, refl, sym, ap, ◌∙◌, subst, arith, ◌&&◌, ◌==◌, count_by, slice_get, slice_set, unwrap_or, if◌then◌else◌, option_map, length-map, length-reverse, map-append, reverse-append, Decides-eqb, and_parts, same_bool, count_by-cons, same_name, lowercased, Name, local_name, same_local_name, StartTag, full_count, Element, document, Document, after_start, parent_of, same_parent, children_of, typed_children_of, AreTyped, AreTypedIf, CountersArePositions, Descend, HasCounted, items_in, typed_in, last_count, count_or, counted_in, counted_if, counted_item, with_typed, count_by_type, root_count, slots_in, item_bytes_in, item_shown, items_shown, children_shown, StackItemOf, StackOf, StackNames}
 use Rattle.std.proofs.Common.{length-append}
 use Rattle.std.proofs.lemmas.Slice.Eq.{bytes_eq-Decides}
 use Rattle.lol_stack.specs.ClimbLaws.{counting_stands}
@@ -8,6 +8,7 @@ use Rattle.lol_stack.specs.TypedFunctions.{counting_adds_one, counts_at_their_le
 use Rattle.lol_stack.specs.TypedLaws.{StandUpTo}
 use Rattle.lol_vm.proofs.Children.{AddsOne, count_of, counted_last, counted_root, counts, kid, last_counted, own_name, root_counted, typed_counted, typed_here}
 use Rattle.lol_vm.specs.Documents.{Child}
+use Rattle.lol_vm.specs.VmLaws.{StandingCounts}
 
 -- 1. The last of a list
 
@@ -234,3 +235,11 @@ counters_are_positions stack by_type d tag are =
       λ room. (λ i. count_by_type (typed_counts stack by_type d tag are i) (many i) name)
           ∙ typed_seen d.children d.open_elements tag.name (room_by_parent stack by_type d tag are room) (typed_in stack) by_type are.typed,
     )
+
+-- a machine that stands for events has counted their children
+pub standing_counts : {E : Type 0} → StandingCounts E
+standing_counts s esi vm events stands =
+    let by_type = vm.program.enable_nth_of_type in
+    let d = document s esi events in
+    let counted = stands.standing.counted in
+    (many_are vm.stack by_type d counted, λ tag. sym (ap (λ n. n + 1) (last_is vm.stack by_type d counted)))

@@ -17,7 +17,7 @@ use Rattle.lol_stack.specs.SoundStacks.{IsSound, hereditary_jumps_in}
 use Rattle.lol_vm.specs.Matching as matching
 use Rattle.lol_tag_runs.specs.declared.tag_runs.Stop.{Stop}
 use Rattle.lol_vm.proofs.Counted.{Tried, addresses_are_nodes, addresses_count_tries}
-use Rattle.lol_vm.specs.TriedLaws.{NotAtOnce}
+use Rattle.lol_vm.proofs.KeysLoseNothing.{NotAtOnce}
 use Rattle.lol_vm.proofs.Spared.{kept_held, named_held, opens_asked, spared_few, spared_inside}
 use Rattle.lol_rows.specs.Rows.{is_left_by_keys, is_left_by_name}
 use Rattle.lol_vm.specs.KeyTries.{asks_at_once, is_left_open, node_keys}

@@ -8,7 +8,7 @@ use Rattle.lol_vm.specs.declared.error.AuxStartTagInfoRequest.{AuxStartTagInfoRe
 use Rattle.lol_vm.specs.declared.event_run.EventRun.{EventRun}
 use Rattle.lol_vm.specs.declared.events.StartOutcome.{StartOutcome}
 use Rattle.lol_vm.specs.declared.events.StartOutcome.TheVariants.{Reported, Dropped}
-use Rattle.lol_vm.proofs.CallerLemmas.{is_left, unfinished_is}
+use Rattle.lol_vm.specs.Openings.{is_left, unfinished_is}
 use Rattle.lol_vm.proofs.RunSteps.{charged_later, follows_on, not_refused}
 use Rattle.lol_vm.proofs.Runs.{events-document}
 use Rattle.lol_vm.specs.AnswerLaws.{started_if}

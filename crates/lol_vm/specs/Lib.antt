@@ -26,4 +26,6 @@ pub mod AddressRuns
 pub mod MachineLaws
 pub mod Standing
 pub mod ChargeLaws
+pub mod CallCharges
+pub mod Openings
 pub mod TriedLaws

@@ -1,15 +1,16 @@
 -- What those who go tag by tag rely on.
-use Rattle.std.specs.Prelude.{◌≡◌, ◌≤◌, ◌-◌, Bool, List, [], ◌∷◌, ◌++◌, length, slice_get, slice_set}
+use Rattle.std.specs.Prelude.{◌≡◌, ◌≤◌, ◌+◌, ◌-◌, Bool, List, [], ◌∷◌, ◌++◌, length, slice_get, slice_set}
 use Rattle.std.specs.Option.{option_map}
 use Rattle.lol_base.specs.StartTags.{StartTag}
 use Rattle.lol_memory.specs.Ids.{Ids}
 use Rattle.lol_memory.specs.Slots.{slots}
-use Rattle.lol_stack.specs.Stacks.{items_in}
+use Rattle.lol_stack.specs.Stacks.{items_in, last_count}
 use Rattle.lol_program.specs.Paths.{Path, Selectors}
 use Rattle.lol_program.specs.Programs.{IsProgramOf}
 use Rattle.lol_program.specs.ProgramViews.{program_shown}
 use Rattle.lol_instructions.specs.Tests.{Element}
 use Rattle.lol_vm.specs.Answers.{attribute_tries, document, name_tries}
+use Rattle.lol_vm.specs.Documents.{element_of}
 use Rattle.lol_vm.specs.Events.{Event, Start}
 use Rattle.lol_vm.specs.Machines.{HoldOnce, LeftMatches}
 use Rattle.lol_vm.specs.Refusals.{longest}
@@ -59,6 +60,13 @@ abbrev pub StandingHasOpen : Type 0 → Type 0
 StandingHasOpen E =
     (s : Selectors) (esi : Bool) (vm : Vm E) (events : List Event) → Stands s esi vm events
     → HasOpen vm (document s esi events).open_elements
+
+-- A machine that stands for events has an item for each of their open elements, and has counted the children before the next element.
+abbrev pub StandingCounts : Type 0 → Type 0
+StandingCounts E =
+    (s : Selectors) (esi : Bool) (vm : Vm E) (events : List Event) → Stands s esi vm events
+    → (length (items_in (stack_in vm)) ≡ length (document s esi events).open_elements)
+    × ((tag : StartTag) → (element_of (document s esi events) tag).position ≡ last_count (stack_in vm) + 1)
 
 -- While a request is open, no more nodes were tried for its tag than the definition tries.
 abbrev pub RequestsTryAtMost : Type 0 → Type 0

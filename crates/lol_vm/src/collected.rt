@@ -1,6 +1,6 @@
 //! What a handler was called with.
 
-ghost use Rattle.std.specs.Prelude.{◌≡◌, [], true, false, IfOk};
+ghost use Rattle.std.specs.Prelude.{◌≡◌, ◌≤◌, [], true, false, vec_capacity, IfOk};
 ghost use Rattle.lol_vm.specs.Collecting.{Collects};
 
 use std::alloc::{AllocError, Global};
@@ -25,13 +25,14 @@ impl<T: Drop> Collected<T> {
         }
     }
 
-    /// With room for so many items.
+    /// No items, and room for so many.
     ///
     /// # Errors
     /// Out of memory.
     pub fn with_capacity(alloc: Global, capacity: usize) -> Result<Self, AllocError>
         ensures items { IfOk result (λ collected. collected.items.items ≡ []) }
         ensures refused { IfOk result (λ collected. collected.refused ≡ false) }
+        ensures room { IfOk result (λ collected. capacity ≤ vec_capacity collected.items) }
     {
         Ok(Collected {
             items: Vec::with_capacity(alloc, capacity)?,

@@ -1,7 +1,7 @@
 //! What those who go tag by tag rely on: each function takes and gives nothing, and its contract is the law.
 
 ghost use Rattle.lol_vm.specs.FreeTags.{FlatPairs, SmallPairs};
-ghost use Rattle.lol_vm.specs.VmLaws.{DataChangeNothing, DataKeepOpen, DataKeepRequests, LastDataAreLent, LastDataChange, PendingStands, RangesHoldOnce, RequestsTryAtMost, SlotsAreOfDepth, StandingHasOpen, TriesAreFew};
+ghost use Rattle.lol_vm.specs.VmLaws.{DataChangeNothing, DataKeepOpen, DataKeepRequests, LastDataAreLent, LastDataChange, PendingStands, RangesHoldOnce, RequestsTryAtMost, SlotsAreOfDepth, StandingCounts, StandingHasOpen, TriesAreFew};
 
 /// What a caller writes into the data of the last open element changes no later report, no open element, and no request.
 pub fn data_change_nothing<E>()
@@ -24,6 +24,11 @@ pub fn dropped_requests_stand<E>()
 /// A machine that stands for events has their open elements.
 pub fn standing_has_open<E>()
     ensures { StandingHasOpen E }
+{}
+
+/// A machine that stands for events has an item for each of their open elements, and has counted the children before the next element.
+pub fn standing_counts<E>()
+    ensures { StandingCounts E }
 {}
 
 /// While a request is open, no more nodes were tried for its tag than the definition tries.

@@ -4,7 +4,7 @@ use Rattle.lol_base.specs.Names.{is_void, void_names}
 use Rattle.lol_base.specs.StartTags.{StartTag}
 use Rattle.lol_base.specs.declared.namespace.Namespace.TheVariants.{Html}
 use Rattle.lol_vm.specs.Views.{selectors}
-use Rattle.lol_vm.proofs.CallerLemmas.{covered_since_new}
+use Rattle.lol_vm.specs.CallCharges.{covered_since_new}
 use Rattle.lol_examples.proofs.breaks.answer_to_break.Goals as goal
 
 pub release-requires : goal.release-requires

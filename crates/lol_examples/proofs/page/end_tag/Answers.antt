@@ -1,6 +1,6 @@
 use Rattle.std.proofs.Common.{rules, ◌≡◌, List, false, refl}
 use Rattle.std.proofs.lemmas.Fn.{chained_keeps}
-use Rattle.lol_vm.proofs.CallerLemmas.{charges_at_end}
+use Rattle.lol_vm.specs.CallCharges.{charges_at_end}
 use Rattle.lol_vm.specs.Answers.{document}
 use Rattle.lol_stack.specs.declared.element_value.ElementValue.{ElementValue}
 use Rattle.lol_examples.proofs.page.end_tag.Goals as goal

@@ -5,7 +5,7 @@ use Rattle.lol_examples.specs.Pages.{event_of_tag}
 use Rattle.lol_examples.specs.Reported.{reported_ids}
 use Rattle.lol_base.specs.ListLaws.{mapped_more}
 use Rattle.lol_examples.proofs.Pushed.{reported_more}
-use Rattle.lol_vm.proofs.CallerLemmas.{charges_both, charges_nothing}
+use Rattle.lol_vm.specs.CallCharges.{charges_both, charges_nothing}
 use Rattle.lol_examples.proofs.page.ids_of_tags.Goals as goal
 
 pub loop-tag-init : goal.loop-tag-init

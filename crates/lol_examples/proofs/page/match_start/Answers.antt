@@ -1,6 +1,6 @@
 use Rattle.std.proofs.Common.{Err, ap, ◌∙◌}
 use Rattle.lol_vm.specs.declared.error.VmError.TheVariants.{InfoRequest}
-use Rattle.lol_vm.proofs.CallerLemmas.{charges_both}
+use Rattle.lol_vm.specs.CallCharges.{charges_both}
 use Rattle.lol_examples.proofs.Told.{told_of, told_since}
 use Rattle.lol_examples.proofs.page.match_start.Goals as goal
 

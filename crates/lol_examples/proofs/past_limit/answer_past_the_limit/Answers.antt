@@ -11,7 +11,7 @@ use Rattle.lol_vm.specs.Due.{IsDue}
 use Rattle.lol_vm.specs.Events.{has_content}
 use Rattle.lol_vm.specs.Views.{selectors}
 use Rattle.lol_vm.specs.Vms.{Vm, slot_bytes, slots_charged}
-use Rattle.lol_vm.proofs.CallerLemmas.{covered_since_new}
+use Rattle.lol_vm.specs.CallCharges.{covered_since_new}
 use Rattle.lol_examples.proofs.past_limit.answer_past_the_limit.Goals as goal
 
 -- without slots nothing can be charged where the maximum is 0

@@ -8,12 +8,12 @@ use Rattle.lol_vm.specs.Answers.{Match}
 use Rattle.lol_run_laws.specs.AskedRuns.{bare_tag}
 use Rattle.lol_vm.specs.Events.{Event}
 use Rattle.lol_vm.specs.Vms.{IsRestOf, info_of, is_asked_for}
-use Rattle.lol_vm.proofs.CallerLemmas.{has_room, hasnt_failed, no_room_for, room_for, opens_handed}
+use Rattle.lol_vm.specs.Openings.{has_room, opens_handed}
 use Rattle.lol_matcher.specs.Keeping.{Runs, allowed}
 use Rattle.lol_matcher.proofs.Charges.{charged_after}
 use Rattle.lol_matcher.proofs.Handing.{asks_are, handed_as, handed_unreported_as}
 use Rattle.lol_matcher.proofs.Refusals.{refused_for_counter, refused_for_limit, refused_for_memory}
-use Rattle.lol_matcher.proofs.Running.{charged_for}
+use Rattle.lol_matcher.proofs.Running.{charged_for, has_no_place, has_place}
 use Rattle.lol_matcher.proofs.Telling.{WasAnswered, other_answer, tried_on, was_answered}
 use Rattle.lol_matcher.proofs.handed.hand_tag.Given as given
 use Rattle.lol_matcher.proofs.handed.hand_tag.Goals as goal
@@ -29,9 +29,9 @@ module _ (g : given.Over) (c : After-clear_opened-opened g) (s : Selectors) (esi
   answered =
       let laws = c.run_laws.ensures in
       let call = c.exec_for_whole_start_tag.ensures in
-      let charged = charged_for laws.depths laws.ordered s esi events c.args.vm.now c.args.limiter.now runs in
-      let room = room_for s esi c.args.vm.now events runs.stands runs.countable (has_room s esi c.args.vm.now events runs.stands _ call.full (other_answer c.in-Ok.is (λ same. cc))) tag in
-      was_answered laws.depths laws.ordered s esi events tag charged room runs.countable (c.in-Ok.ensures.answered s esi events tag runs.stands (c.new-local_name.ensures ∙ ap local_name (sym named), spaced) when)
+      let charged = charged_for laws.depths laws.counts laws.ordered s esi events c.args.vm.now c.args.limiter.now runs in
+      let room = has_place laws.depths laws.counts laws.ordered s esi events c.args.vm.now c.args.limiter.now runs tag (has_room c.args.vm.now runs.stands.unfailed _ call.full (other_answer c.in-Ok.is (λ same. cc))) in
+      was_answered laws.depths laws.counts laws.ordered s esi events tag charged room runs.countable (c.in-Ok.ensures.answered s esi events tag runs.stands (c.new-local_name.ensures ∙ ap local_name (sym named), spaced) when)
       call.charges c.open_elements-open_before.ensures c.clear_opened-opened.ensures
 
   asks : is_asked_for s esi events tag ≡ c.in-Ok._asked
@@ -69,8 +69,8 @@ returns-in-Err-MemoryLimitExceeded-clause-refused g c = λ s esi events tag runs
     let laws = c.run_laws.ensures in
     let call = c.exec_for_whole_start_tag.ensures in
     let is = c.in-Err-MemoryLimitExceeded.is ∙ ap Err c.in-Err-MemoryLimitExceeded.field-0-is in
-    let charged = charged_for laws.depths laws.ordered s esi events c.args.vm.now c.args.limiter.now runs in
-    let room = room_for s esi c.args.vm.now events runs.stands runs.countable (has_room s esi c.args.vm.now events runs.stands _ call.full (other_answer is (λ same. cc))) tag in
+    let charged = charged_for laws.depths laws.counts laws.ordered s esi events c.args.vm.now c.args.limiter.now runs in
+    let room = has_place laws.depths laws.counts laws.ordered s esi events c.args.vm.now c.args.limiter.now runs tag (has_room c.args.vm.now runs.stands.unfailed _ call.full (other_answer is (λ same. cc))) in
     let limited = call.limited is in
     let reported = limited.1 s esi events tag runs.stands (c.new-local_name.ensures ∙ ap local_name (sym named), spaced) rest in
     refused_for_limit s esi charged tag room (opens_handed s esi events tag reported.0 rest.2) limited.0
@@ -80,21 +80,21 @@ returns-in-Err-CounterFull-clause-refused g c = λ s esi events tag runs named s
     let laws = c.run_laws.ensures in
     let call = c.exec_for_whole_start_tag.ensures in
     let is = c.in-Err-CounterFull.is ∙ ap Err c.in-Err-CounterFull.field-0-is in
-    let charged = charged_for laws.depths laws.ordered s esi events c.args.vm.now c.args.limiter.now runs in
-    refused_for_counter s esi charged tag (no_room_for s esi c.args.vm.now events runs.stands (call.full.0 is).1 tag)
+    let charged = charged_for laws.depths laws.counts laws.ordered s esi events c.args.vm.now c.args.limiter.now runs in
+    refused_for_counter s esi charged tag (has_no_place laws.depths laws.counts laws.ordered s esi events c.args.vm.now c.args.limiter.now runs tag (call.full.0 is).1)
 
 pub returns-in-Err-Memory-clause-refused : goal.returns-in-Err-Memory-clause-refused
 returns-in-Err-Memory-clause-refused g c = λ s esi events tag runs named spaced rest.
     let laws = c.run_laws.ensures in
     let call = c.exec_for_whole_start_tag.ensures in
     let is = c.in-Err-Memory.is ∙ ap Err c.in-Err-Memory.field-0-is in
-    let charged = charged_for laws.depths laws.ordered s esi events c.args.vm.now c.args.limiter.now runs in
-    let room = room_for s esi c.args.vm.now events runs.stands runs.countable (has_room s esi c.args.vm.now events runs.stands _ call.full (other_answer is (λ same. cc))) tag in
+    let charged = charged_for laws.depths laws.counts laws.ordered s esi events c.args.vm.now c.args.limiter.now runs in
+    let room = has_place laws.depths laws.counts laws.ordered s esi events c.args.vm.now c.args.limiter.now runs tag (has_room c.args.vm.now runs.stands.unfailed _ call.full (other_answer is (λ same. cc))) in
     refused_for_memory s esi charged tag room (λ free opening limited. c.in-Err-Memory.ensures.due limited s esi events tag runs.stands (c.new-local_name.ensures ∙ ap local_name (sym named), spaced) free c.in-Err-Memory.field-0-is)
 
 pub returns-in-Err-Failed-clause-refused : goal.returns-in-Err-Failed-clause-refused
 returns-in-Err-Failed-clause-refused g c = λ s esi events tag runs named spaced rest.
-    absurd (true≢false (sym (c.exec_for_whole_start_tag.ensures.failed.exactly.0 (c.in-Err-Failed.is ∙ ap Err c.in-Err-Failed.field-0-is)) ∙ hasnt_failed s esi c.args.vm.now events runs.stands))
+    absurd (true≢false (sym (c.exec_for_whole_start_tag.ensures.failed.exactly.0 (c.in-Err-Failed.is ∙ ap Err c.in-Err-Failed.field-0-is)) ∙ runs.stands.unfailed))
 
 pub returns-then-matches-clause-tried : goal.returns-then-matches-clause-tried
 returns-then-matches-clause-tried g c = λ s esi events tag runs named spaced rest.

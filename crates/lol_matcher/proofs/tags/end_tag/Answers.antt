@@ -7,6 +7,6 @@ pub returns-clause-runs : goal.returns-clause-runs
 returns-clause-runs g c = λ s esi events limiter runs.
     let laws = c.run_laws.ensures in
     let call = c.exec_for_end_tag in
-    runs_after_end laws.depths laws.ordered s esi events c.args.name.now c.args.vm.now call.new.self limiter runs
+    runs_after_end laws.depths laws.counts laws.ordered s esi events c.args.name.now c.args.vm.now call.new.self limiter runs
     (call.ensures.stands s esi events c.args.name.now c.new.ensures runs.stands) call.ensures.bytes
     (charged_alike c.args.vm.now call.new.self limiter limiter call.ensures.slots call.ensures.bytes refl runs.charged)

@@ -8,11 +8,11 @@ use Rattle.lol_program.specs.Paths.{Selectors}
 use Rattle.lol_vm.specs.Answers.{Match}
 use Rattle.lol_vm.specs.Events.{Event}
 use Rattle.lol_vm.specs.Vms.{info_of}
-use Rattle.lol_vm.proofs.CallerLemmas.{has_room, hasnt_failed, no_room_for, room_for, opens_unasked}
+use Rattle.lol_vm.specs.Openings.{has_room, opens_unasked}
 use Rattle.lol_matcher.specs.Keeping.{Runs}
 use Rattle.lol_matcher.proofs.Charges.{charged_after, charged_alike}
 use Rattle.lol_matcher.proofs.Refusals.{refused_for_counter, refused_for_limit, refused_for_memory}
-use Rattle.lol_matcher.proofs.Running.{charged_for}
+use Rattle.lol_matcher.proofs.Running.{charged_for, has_no_place, has_place}
 use Rattle.lol_matcher.proofs.Telling.{WasAnswered, asked_for, other_answer, tried_on, was_answered}
 use Rattle.lol_matcher.proofs.tags.start_tag.Given as given
 use Rattle.lol_matcher.proofs.tags.start_tag.Goals as goal
@@ -27,9 +27,9 @@ module _ (g : given.Over) (c : After-clear_opened-opened g) (s : Selectors) (esi
   answered =
       let laws = c.run_laws.ensures in
       let call = c.exec_for_start_tag.ensures in
-      let charged = charged_for laws.depths laws.ordered s esi events c.args.vm.now c.args.limiter.now runs in
-      let room = room_for s esi c.args.vm.now events runs.stands runs.countable (has_room s esi c.args.vm.now events runs.stands _ call.full (other_answer c.in-Ok.is (λ same. cc))) tag in
-      was_answered laws.depths laws.ordered s esi events tag charged room runs.countable (c.in-Ok.ensures.answered s esi events tag runs.stands (c.new.ensures ∙ ap local_name (sym named), spaced))
+      let charged = charged_for laws.depths laws.counts laws.ordered s esi events c.args.vm.now c.args.limiter.now runs in
+      let room = has_place laws.depths laws.counts laws.ordered s esi events c.args.vm.now c.args.limiter.now runs tag (has_room c.args.vm.now runs.stands.unfailed _ call.full (other_answer c.in-Ok.is (λ same. cc))) in
+      was_answered laws.depths laws.counts laws.ordered s esi events tag charged room runs.countable (c.in-Ok.ensures.answered s esi events tag runs.stands (c.new.ensures ∙ ap local_name (sym named), spaced))
       call.charges c.open_elements-open_before.ensures c.clear_opened-opened.ensures
 
   kept : c.matches-1.given.0.refused ≡ false → c.matches-1.given.0.items.items ≡ map info_of matched
@@ -66,10 +66,10 @@ returns-in-Err-InfoRequest-clause-told g c = λ s esi events tag runs named spac
     let laws = c.run_laws.ensures in
     let call = c.exec_for_start_tag.ensures in
     let is = c.in-Err-InfoRequest.is ∙ ap Err c.in-Err-InfoRequest.field-0-is in
-    let room = room_for s esi c.args.vm.now events runs.stands runs.countable (has_room s esi c.args.vm.now events runs.stands _ call.full (other_answer is (λ same. cc))) tag in
+    let room = has_place laws.depths laws.counts laws.ordered s esi events c.args.vm.now c.args.limiter.now runs tag (has_room c.args.vm.now runs.stands.unfailed _ call.full (other_answer is (λ same. cc))) in
     let left = c.in-Err-InfoRequest.ensures.left in
     let charged = charged_alike c.args.vm.now c.exec_for_start_tag.new.self c.args.limiter.now c.exec_for_start_tag.new.limiter left.slots call.charges.bytes left.uncharged runs.charged in
-    asked_for laws.depths laws.ordered laws.dropped s esi events tag c.args.vm.now c.exec_for_start_tag.new.self c.args.limiter.now c.exec_for_start_tag.new.limiter runs room call.charges.bytes (ap (λ (l : Limiter). l.maximum) left.uncharged) charged
+    asked_for laws.depths laws.counts laws.ordered laws.dropped s esi events tag c.args.vm.now c.exec_for_start_tag.new.self c.args.limiter.now c.exec_for_start_tag.new.limiter runs room call.charges.bytes (ap (λ (l : Limiter). l.maximum) left.uncharged) charged
     c.in-Err-InfoRequest.request (call.asked c.in-Err-InfoRequest.request is s esi events tag runs.stands (c.new.ensures ∙ ap local_name (sym named), spaced))
 
 pub returns-in-Err-MemoryLimitExceeded-clause-refused : goal.returns-in-Err-MemoryLimitExceeded-clause-refused
@@ -77,8 +77,8 @@ returns-in-Err-MemoryLimitExceeded-clause-refused g c = λ s esi events tag runs
     let laws = c.run_laws.ensures in
     let call = c.exec_for_start_tag.ensures in
     let is = c.in-Err-MemoryLimitExceeded.is ∙ ap Err c.in-Err-MemoryLimitExceeded.field-0-is in
-    let charged = charged_for laws.depths laws.ordered s esi events c.args.vm.now c.args.limiter.now runs in
-    let room = room_for s esi c.args.vm.now events runs.stands runs.countable (has_room s esi c.args.vm.now events runs.stands _ call.full (other_answer is (λ same. cc))) tag in
+    let charged = charged_for laws.depths laws.counts laws.ordered s esi events c.args.vm.now c.args.limiter.now runs in
+    let room = has_place laws.depths laws.counts laws.ordered s esi events c.args.vm.now c.args.limiter.now runs tag (has_room c.args.vm.now runs.stands.unfailed _ call.full (other_answer is (λ same. cc))) in
     let limited = call.limited is in
     let reported = limited.1 s esi events tag runs.stands (c.new.ensures ∙ ap local_name (sym named), spaced) in
     refused_for_limit s esi charged tag room (opens_unasked s esi events tag reported.0 reported.1.asks) limited.0
@@ -88,21 +88,21 @@ returns-in-Err-CounterFull-clause-refused g c = λ s esi events tag runs named s
     let laws = c.run_laws.ensures in
     let call = c.exec_for_start_tag.ensures in
     let is = c.in-Err-CounterFull.is ∙ ap Err c.in-Err-CounterFull.field-0-is in
-    let charged = charged_for laws.depths laws.ordered s esi events c.args.vm.now c.args.limiter.now runs in
-    refused_for_counter s esi charged tag (no_room_for s esi c.args.vm.now events runs.stands (call.full.0 is).1 tag)
+    let charged = charged_for laws.depths laws.counts laws.ordered s esi events c.args.vm.now c.args.limiter.now runs in
+    refused_for_counter s esi charged tag (has_no_place laws.depths laws.counts laws.ordered s esi events c.args.vm.now c.args.limiter.now runs tag (call.full.0 is).1)
 
 pub returns-in-Err-Memory-clause-refused : goal.returns-in-Err-Memory-clause-refused
 returns-in-Err-Memory-clause-refused g c = λ s esi events tag runs named spaced.
     let laws = c.run_laws.ensures in
     let call = c.exec_for_start_tag.ensures in
     let is = c.in-Err-Memory.is ∙ ap Err c.in-Err-Memory.field-0-is in
-    let charged = charged_for laws.depths laws.ordered s esi events c.args.vm.now c.args.limiter.now runs in
-    let room = room_for s esi c.args.vm.now events runs.stands runs.countable (has_room s esi c.args.vm.now events runs.stands _ call.full (other_answer is (λ same. cc))) tag in
+    let charged = charged_for laws.depths laws.counts laws.ordered s esi events c.args.vm.now c.args.limiter.now runs in
+    let room = has_place laws.depths laws.counts laws.ordered s esi events c.args.vm.now c.args.limiter.now runs tag (has_room c.args.vm.now runs.stands.unfailed _ call.full (other_answer is (λ same. cc))) in
     refused_for_memory s esi charged tag room (λ free opening limited. call.due _ is limited s esi events tag runs.stands (c.new.ensures ∙ ap local_name (sym named), spaced) free)
 
 pub returns-in-Err-Failed-clause-refused : goal.returns-in-Err-Failed-clause-refused
 returns-in-Err-Failed-clause-refused g c = λ s esi events tag runs named spaced.
-    absurd (true≢false (sym (c.exec_for_start_tag.ensures.failed.exactly.0 (c.in-Err-Failed.is ∙ ap Err c.in-Err-Failed.field-0-is)) ∙ hasnt_failed s esi c.args.vm.now events runs.stands))
+    absurd (true≢false (sym (c.exec_for_start_tag.ensures.failed.exactly.0 (c.in-Err-Failed.is ∙ ap Err c.in-Err-Failed.field-0-is)) ∙ runs.stands.unfailed))
 
 pub returns-then-matches-clause-tried : goal.returns-then-matches-clause-tried
 returns-then-matches-clause-tried g c = λ s esi events tag runs named spaced.

@@ -27,9 +27,4 @@ returns c = record {
   attributes = refl;
   attribute_with_equals = refl;
   esi = refl;
-  bad_selector = refl;
-  empty_selector = refl;
-  bad_form = refl;
-  late_setting = refl;
-  late_bad_line = refl;
 }

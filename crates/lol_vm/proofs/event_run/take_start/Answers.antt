@@ -5,7 +5,7 @@ use Rattle.lol_vm.specs.declared.error.StartTagError.TheVariants as refusals
 use Rattle.lol_vm.specs.declared.error.VmError.{VmError}
 use Rattle.lol_vm.specs.declared.error.VmError.TheVariants.{InfoRequest, MemoryLimitExceeded, Memory, CounterFull}
 use Rattle.std.specs.declared.alloc.AllocError.{AllocError}
-use Rattle.lol_vm.proofs.CallerLemmas.{has_content_if, has_room, hasnt_failed, opens_handed, opens_nothing, opens_unasked}
+use Rattle.lol_vm.specs.Openings.{has_content_if, has_room, opens_handed, opens_nothing, opens_unasked}
 use Rattle.lol_vm.proofs.TakenStarts.{dropped}
 use Rattle.lol_vm.proofs.event_run.take_start.Goals as goal
 
@@ -29,19 +29,19 @@ returns-in-Err-MemoryLimitExceeded-clause-refused g c = λ s esi events tag stan
     let reported = (c.exec_for_whole_start_tag.ensures.limited is).1 s esi events tag stands named rest in (
       opens_handed s esi events tag reported.0 rest.2,
       (c.exec_for_whole_start_tag.ensures.limited is).0,
-      has_room s esi c.args.vm.now events stands _ c.exec_for_whole_start_tag.ensures.full (whole_instead c.exec_for_whole_start_tag.result _ is (λ full. cc)),
+      has_room c.args.vm.now stands.unfailed _ c.exec_for_whole_start_tag.ensures.full (whole_instead c.exec_for_whole_start_tag.result _ is (λ full. cc)),
     )
 
 pub returns-in-Err-Memory-clause-refused : goal.returns-in-Err-Memory-clause-refused
 returns-in-Err-Memory-clause-refused g c = λ s esi events tag stands named handed.
     let is = c.in-Err-Memory.is ∙ ap Err c.in-Err-Memory.field-0-is in (
-      has_room s esi c.args.vm.now events stands _ c.exec_for_whole_start_tag.ensures.full (whole_instead c.exec_for_whole_start_tag.result _ is (λ full. cc)),
+      has_room c.args.vm.now stands.unfailed _ c.exec_for_whole_start_tag.ensures.full (whole_instead c.exec_for_whole_start_tag.result _ is (λ full. cc)),
       λ runs opening limited. c.in-Err-Memory.ensures.due limited s esi events tag stands named runs.flat c.in-Err-Memory.field-0-is,
     )
 
 pub returns-in-Err-Failed-clause-refused : goal.returns-in-Err-Failed-clause-refused
 returns-in-Err-Failed-clause-refused g c = λ s esi events tag stands named handed.
-    absurd (true≢false (sym (c.exec_for_whole_start_tag.ensures.failed.exactly.0 (c.in-Err-Failed.is ∙ ap Err c.in-Err-Failed.field-0-is)) ∙ hasnt_failed s esi c.args.vm.now events stands))
+    absurd (true≢false (sym (c.exec_for_whole_start_tag.ensures.failed.exactly.0 (c.in-Err-Failed.is ∙ ap Err c.in-Err-Failed.field-0-is)) ∙ stands.unfailed))
 
 -- 2. They aren't
 
@@ -76,12 +76,12 @@ returns-in-Err-MemoryLimitExceeded-exec_for_start_tag-clause-refused g c = λ s 
     let reported = (c.exec_for_start_tag.ensures.limited is).1 s esi events tag stands named in (
       opens_unasked s esi events tag reported.0 reported.1.asks,
       (c.exec_for_start_tag.ensures.limited is).0,
-      has_room s esi c.args.vm.now events stands _ c.exec_for_start_tag.ensures.full (limited_instead c.exec_for_start_tag.result _ is),
+      has_room c.args.vm.now stands.unfailed _ c.exec_for_start_tag.ensures.full (limited_instead c.exec_for_start_tag.result _ is),
     )
 
 pub returns-in-Err-Memory-exec_for_start_tag-clause-refused : goal.returns-in-Err-Memory-exec_for_start_tag-clause-refused
 returns-in-Err-Memory-exec_for_start_tag-clause-refused g c = λ s esi events tag stands named handed.
     let is = c.in-Err-Memory-exec_for_start_tag.is ∙ ap Err c.in-Err-Memory-exec_for_start_tag.field-0-is in (
-      has_room s esi c.args.vm.now events stands _ c.exec_for_start_tag.ensures.full (memory_instead c.exec_for_start_tag.result _ is),
+      has_room c.args.vm.now stands.unfailed _ c.exec_for_start_tag.ensures.full (memory_instead c.exec_for_start_tag.result _ is),
       λ runs opening limited. c.exec_for_start_tag.ensures.due _ is limited s esi events tag stands named runs,
     )

@@ -15,7 +15,7 @@ invariant_of-self g c =
     let left = c.open_elements.result in
     subst (λ (notes : Noting). Explains texts explainer notes new) (sym (c.close.ensures ∙ ap (λ (n : Noting). record n { numbers = take left n.numbers }) c.count.ensures))
     (ended_explains c.plain_laws.ensures texts explainer c.self.inside.notes c.self.inside.matcher new c.args.name.now left c.self.invariant c.end_with.ensures.ended c.end_with.ensures.open
-    (λ ok. c.open_elements.ensures ∙ as_many (selectors new.told.ast) new.told.esi c.machine.result.now (heard new.told) (c.machine.ensures.stands ok)))
+    (λ ok. c.open_elements.ensures ∙ as_many c.standing_counts.ensures (selectors new.told.ast) new.told.esi c.machine.result.now (heard new.told) (c.machine.ensures.stands ok)))
 
 pub returns-clause-called : goal.returns-clause-called
 returns-clause-called g c = rw (← c.self.view_is) c.end_with.ensures.called

@@ -17,7 +17,7 @@ loop-index-preserved g c =
     let same : t ≡ s = ap (sight c.args.self.now.state) so_far.name in
     let r = c.range.result in
     let within : k < length ranges = subst (λ n. k < n) c.len-index-end.ensures c.loop-index-test.true in
-    let first = first_left all ranges k r within c.range.ensures in
+    let first = first_left ranges k r within c.range.ensures in
     let is = λ (runnable : AreRunnable all (drop c.args.first ranges) c.args.tries.now). part_is all ranges k r within c.range.ensures (so_far.runs runnable) part c.instructions_in-part.ensures.value in
     record {
       runs = λ runnable. others_run all first (so_far.runs runnable) part (is runnable) c.exec_instructions.new.tries (omega (arith, told.names)) (omega (arith, told.attributes, open_at_most t part));
@@ -40,7 +40,7 @@ returns-in_err-exec_instructions-clause-within g c = λ runnable.
     let told = c.exec_instructions.ensures in
     let r = c.range.result in
     let within : k < length ranges = subst (λ n. k < n) c.len-index-end.ensures c.loop-index-test.true in
-    let first = first_left all ranges k r within c.range.ensures in
+    let first = first_left ranges k r within c.range.ensures in
     let is = part_is all ranges k r within c.range.ensures (so_far.runs runnable) part c.instructions_in-part.ensures.value in
     record {
       names = omega (arith, told.names_bound, so_far.names runnable, length_split all first part is);

@@ -1,5 +1,6 @@
 use Rattle.lol_vm.proofs.Common.{rules, refl}
-use Rattle.lol_vm.proofs.CallerLemmas.{charges_none, charges_pushed}
+use Rattle.lol_vm.specs.CallCharges.{charges_none}
+use Rattle.lol_vm.proofs.Charging.{charges_pushed}
 use Rattle.lol_vm.proofs.VmRefusals.{alike_opens_nothing, on_err_both}
 use Rattle.lol_vm.proofs.vm.VmOf+Program+LocalName+StackNames+E.answer.Goals as goal
 

@@ -4,7 +4,8 @@ use Rattle.lol_vm.specs.VmErrors.{IsAskedOrFull}
 use Rattle.lol_vm.specs.declared.error.StartTagError.TheVariants as refusals
 use Rattle.lol_vm.specs.declared.error.VmError.{VmError}
 use Rattle.lol_vm.specs.declared.error.VmError.TheVariants.{CounterFull, Failed, InfoRequest, Memory}
-use Rattle.lol_vm.proofs.CallerLemmas.{charges_both, charges_unopened}
+use Rattle.lol_vm.specs.CallCharges.{charges_both}
+use Rattle.lol_vm.proofs.Charging.{charges_unopened}
 use Rattle.lol_vm.proofs.FreeTagLemmas.{asked_only, limit_only, not_for_memory, void_is_closed, void_unspelled}
 use Rattle.lol_vm.proofs.TriedStartLemmas.{began, begun_answered, begun_complete, begun_due, begun_pending, begun_unfailed, named_so, new_context}
 use Rattle.lol_vm.proofs.VmStarts.{reported, requested_is}

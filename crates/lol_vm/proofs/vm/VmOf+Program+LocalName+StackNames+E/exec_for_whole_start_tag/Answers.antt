@@ -2,7 +2,8 @@ use Rattle.lol_vm.proofs.Common.{◌≡◌, arith, false, inl, inr, Err, refl, s
 use Rattle.lol_memory.specs.declared.limited_vec.PushError.TheVariants as pushes
 use Rattle.lol_vm.specs.Due.{IsDue}
 use Rattle.lol_vm.specs.declared.error.StartTagError.TheVariants as refusals
-use Rattle.lol_vm.proofs.CallerLemmas.{charges_both, charges_unopened}
+use Rattle.lol_vm.specs.CallCharges.{charges_both}
+use Rattle.lol_vm.proofs.Charging.{charges_unopened}
 use Rattle.lol_vm.proofs.FreeTagLemmas.{memory_instead, void_is_closed}
 use Rattle.lol_vm.proofs.TriedStartLemmas.{began, begun_answered, begun_complete, begun_due, begun_pending, named_so, new_context, reported_if, whole_since}
 use Rattle.lol_vm.proofs.VmStarts.{reported}

@@ -1,7 +1,7 @@
 use Rattle.std.proofs.Common.{refl}
 use Rattle.std.specs.Char.{encode_utf8}
 use Rattle.std.specs.Str.{is_utf8, chars}
-use Rattle.lol_script.proofs.laws.worked_settings.Goals as goal
+use Rattle.lol_script.proofs.laws.worked_selects.Goals as goal
 
 pub returns-clause-empty_text : goal.returns-clause-empty_text
 unfolding is_utf8 chars encode_utf8
