@@ -1,3 +1,4 @@
+use Rattle.std.proofs.Common.{rules}
 use Rattle.lol_vm.proofs.Common.{◌≡◌, Result, Bool, Err, sym, ap, ◌∙◌, subst, true≢false, IsHandedOver}
 use Rattle.lol_memory.specs.declared.limiter.MemoryLimitExceededError.{MemoryLimitExceededError}
 use Rattle.lol_vm.specs.declared.error.StartTagError.{StartTagError}
@@ -31,6 +32,9 @@ returns-in-Err-MemoryLimitExceeded-clause-refused g c = λ s esi events tag stan
       (c.exec_for_whole_start_tag.ensures.limited is).0,
       has_room c.args.vm.now stands.unfailed _ c.exec_for_whole_start_tag.ensures.full (whole_instead c.exec_for_whole_start_tag.result _ is (λ full. cc)),
     )
+
+pub returns-in-Err-CounterFull-clause-refused : goal.returns-in-Err-CounterFull-clause-refused
+returns-in-Err-CounterFull-clause-refused g c = search rules
 
 pub returns-in-Err-Memory-clause-refused : goal.returns-in-Err-Memory-clause-refused
 returns-in-Err-Memory-clause-refused g c = λ s esi events tag stands named handed.

@@ -3,3 +3,18 @@ use Rattle.zugrenja_c.proofs.tags.zugrenja_start.Goals as goal
 
 pub returns-clause-reported : goal.returns-clause-reported
 returns-clause-reported c = search rules
+
+pub returns-clause-asks : goal.returns-clause-asks
+returns-clause-asks c = search rules
+
+pub returns-clause-limit : goal.returns-clause-limit
+returns-clause-limit c = search rules
+
+pub returns-clause-counter : goal.returns-clause-counter
+returns-clause-counter c = search rules
+
+pub returns-clause-memory : goal.returns-clause-memory
+returns-clause-memory c = search rules
+
+pub returns-clause-explaining : goal.returns-clause-explaining
+returns-clause-explaining c = search rules
