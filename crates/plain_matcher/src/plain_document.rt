@@ -125,14 +125,16 @@ pub(crate) fn new_element<'e>(
         ≡ documents.element_of (document_shown number document.now) (tag_of name.now ns aux_info.entry finish)) }
 {
     let parent = parent_of(&document.open_elements);
+    let position = position_after(children_of(parent, &document.children))?;
+    let typed_position = position_after(typed_children_of(parent, name, &document.children))?;
     Ok(PlainElement {
         number,
         name,
         attributes: AttributeMatcher::new(aux_info.input, aux_info.attr_buffer, ns),
         self_closing: aux_info.self_closing,
         finish,
-        position: position_after(children_of(parent, &document.children))?,
-        typed_position: position_after(typed_children_of(parent, name, &document.children))?,
+        position,
+        typed_position,
     })
 }
 
