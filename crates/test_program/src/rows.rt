@@ -1,76 +1,36 @@
 //! Rows of the instructions of selectors that stand side by side.
 
+use crate::nodes::add;
 use lol_base::{Attributes, LocalName, Namespace};
-use lol_css::Selector;
 use lol_program::{Ast, AttributeMatcher, Compiler, Instruction, Program};
-use lol_rows::{Rows, TagKeys, is_left, name_hashes};
+use lol_rows::{Rows, TagKeys, name_hashes};
 use std::alloc::{AllocError, Global};
+use std::ops::Range;
 use std::process::Abort;
 use std::test::Fail;
 
-const SELECTORS: &[&str] = &[
-    "div",
-    "P",
-    ".a",
-    "p.a",
-    "#i",
-    "[href]",
-    "p[HREF^=x]",
-    "*",
-    ":nth-child(2).b",
-    ":not(.a)",
-    "*.A#i",
-    "[href^='']",
-    "a:not(p)",
-];
+/// Selectors, one on each line.
+const SELECTORS: &str = "\
+    div\nP\n.a\np.a\n#i\n\
+    [href]\np[HREF^=x]\n*\n:nth-child(2).b\n:not(.a)\n\
+    *.A#i\n[href^='']\na:not(p)";
 
-/// Selectors of other names than the tags have. With those above they are 49.
-const OTHERS: &[&str] = &[
-    "h1",
-    "h1.a",
-    "h1#i",
-    "h1[href]",
-    "h1:not(.a)",
-    "h1:nth-child(2).b",
-    "h2",
-    "h2.a",
-    "h2#i",
-    "h2[href]",
-    "h2:not(.a)",
-    "h2:nth-child(2).b",
-    "h3",
-    "h3.a",
-    "h3#i",
-    "h3[href]",
-    "h3:not(.a)",
-    "h3:nth-child(2).b",
-    "h4",
-    "h4.a",
-    "h4#i",
-    "h4[href]",
-    "h4:not(.a)",
-    "h4:nth-child(2).b",
-    "h5",
-    "h5.a",
-    "h5#i",
-    "h5[href]",
-    "h5:not(.a)",
-    "h5:nth-child(2).b",
-    "h6",
-    "h6.a",
-    "h6#i",
-    "h6[href]",
-    "h6:not(.a)",
-    "h6:nth-child(2).b",
-];
+/// Selectors of other names than the tags have, on lines too. With those above they are 49.
+const OTHERS: &str = "\
+    h1\nh1.a\nh1#i\nh1[href]\nh1:not(.a)\nh1:nth-child(2).b\n\
+    h2\nh2.a\nh2#i\nh2[href]\nh2:not(.a)\nh2:nth-child(2).b\n\
+    h3\nh3.a\nh3#i\nh3[href]\nh3:not(.a)\nh3:nth-child(2).b\n\
+    h4\nh4.a\nh4#i\nh4[href]\nh4:not(.a)\nh4:nth-child(2).b\n\
+    h5\nh5.a\nh5#i\nh5[href]\nh5:not(.a)\nh5:nth-child(2).b\n\
+    h6\nh6.a\nh6#i\nh6[href]\nh6:not(.a)\nh6:nth-child(2).b";
 
 /// A tag: its name, and its attributes.
-type Tag = (&'static str, &'static [(&'static str, &'static str)]);
+type Tag<'t> = (&'t str, &'t [(&'t str, &'t str)]);
 
 /// A tag, the selectors that its name leaves, whether one of these is known to need attributes, and those that its attributes leave too.
-type Row = (Tag, &'static [usize], bool, &'static [usize]);
+type Row<'t> = (Tag<'t>, &'t [u32], bool, &'t [u32]);
 
-const ROWS: [Row; 8] = [
+static ROWS: [Row<'static>; 8] = [
     (
         ("p", &[]),
         &[1, 2, 3, 4, 5, 6, 7, 8, 9, 10, 11],
@@ -123,13 +83,90 @@ const ROWS: [Row; 8] = [
     ),
 ];
 
-/// The program of some selectors, and of others after them.
-fn program(alloc: Global, texts: &[&str], others: &[&str]) -> Result<Program, Fail> {
+/// A program, and the rows of its instructions.
+#[derive(Drop)]
+struct WithRows {
+    program: Program,
+    rows: Rows,
+}
+
+/// The rows of a program of selectors, one on each line of texts.
+fn with_rows(alloc: Global, texts: &[&str]) -> Result<WithRows, Fail> {
     let mut ast = Ast::new(alloc);
-    for text in texts.iter().chain(others) {
-        ast.add_selector(&Selector::from_str(alloc, text)?, 0)?;
+    for text in texts {
+        add_lines(alloc, &mut ast, text)?;
     }
-    Ok(Compiler::new(alloc).compile(ast)?)
+    compiled(alloc, ast)
+}
+
+fn compiled(alloc: Global, ast: Ast) -> Result<WithRows, Fail> {
+    let program = Compiler::new(alloc).compile(ast)?;
+    let rows = Rows::of(alloc, &program.instructions)?;
+    Ok(WithRows { program, rows })
+}
+
+fn add_lines(alloc: Global, ast: &mut Ast, lines: &str) -> Result<(), Fail> {
+    for line in lines.lines() {
+        add(alloc, ast, line, 0)?;
+    }
+    Ok(())
+}
+
+/// What is asked of rows.
+#[derive(Clone, Copy)]
+enum Question<'q> {
+    /// Whether they leave what is counted by hand.
+    Counted(&'q [Row<'q>]),
+    /// Whether they look up long ranges only.
+    LooksUp(&'q [MetRow]),
+    /// Whether they leave what a look at each leaves, in each range from one of so many starts to one of these ends.
+    LeavesAlike(usize, Ends, &'q [Tag<'q>]),
+    /// Whether they add it in these ranges.
+    AddsAlike(&'q [Ends], &'q [Tag<'q>]),
+    /// Whether they know what needs attributes.
+    Opens(&'q [Open<'q>]),
+    /// Whether they leave these addresses of tags.
+    Leaves(&'q [LeftRow<'q>]),
+    /// Whether they tell keys of one hash apart.
+    TellsApart,
+}
+
+use Question::{AddsAlike, Counted, Leaves, LeavesAlike, LooksUp, Opens, TellsApart};
+
+/// Expects the rows of selectors, one on each line of texts, to answer as they should.
+fn check(
+    rt: &impl Abort,
+    alloc: Global,
+    texts: &[&str],
+    question: Question<'_>,
+) -> Result<(), Fail> {
+    let tried = with_rows(alloc, texts)?;
+    expect_answer(rt, alloc, &tried, question)
+}
+
+fn expect_answer(
+    rt: &impl Abort,
+    alloc: Global,
+    tried: &WithRows,
+    question: Question<'_>,
+) -> Result<(), Fail> {
+    match question {
+        Counted(rows) => expect_counted(rt, alloc, tried, rows),
+        LooksUp(rows) => expect_met(rt, alloc, tried, rows),
+        LeavesAlike(starts, ends, tags) => expect_alike(rt, alloc, tried, starts, ends, tags),
+        AddsAlike(ranges, tags) => expect_added(rt, alloc, tried, ranges, tags),
+        Opens(rows) => {
+            expect_open(rt, tried, rows);
+            Ok(())
+        }
+        Leaves(rows) => expect_left(rt, alloc, tried, rows),
+        TellsApart => expect_told_apart(rt, alloc, tried),
+    }
+}
+
+/// The addresses of all instructions.
+fn all(tried: &WithRows) -> Range<usize> {
+    0..tried.program.instructions.len()
 }
 
 fn attributes(alloc: Global, pairs: &[(&str, &str)]) -> Result<Attributes, AllocError> {
@@ -160,75 +197,104 @@ fn hashes(
     Ok(hashes)
 }
 
+/// Adds what a tag leaves of a range to a list, and what is looked up to the one before it.
+fn add_left<'t>(
+    tried: &WithRows,
+    range: &Range<usize>,
+    name: &'t LocalName<'t>,
+    matcher: Option<&'t AttributeMatcher<'t>>,
+    hashes: Option<&[u32]>,
+    found: &mut Vec<u32>,
+    left: &mut Vec<u32>,
+) -> Result<(), AllocError> {
+    let keys = TagKeys::new(name, matcher, hashes);
+    let instructions = tried.program.instructions.as_slice();
+    tried.rows.add_left(instructions, range, &keys, found, left)
+}
+
 /// The addresses of a range that a tag leaves, by rows.
 fn by_rows<'t>(
     alloc: Global,
-    program: &Program,
-    rows: &Rows,
-    (start, end): (usize, usize),
+    tried: &WithRows,
+    range: &Range<usize>,
     name: &'t LocalName<'t>,
     matcher: Option<&'t AttributeMatcher<'t>>,
-) -> Result<Vec<usize>, AllocError> {
-    let hashes = hashes(alloc, rows, name, matcher)?;
-    let keys = TagKeys::new(name, matcher, Some(&hashes));
+) -> Result<Vec<u32>, AllocError> {
+    let hashes = hashes(alloc, &tried.rows, name, matcher)?;
     let (mut found, mut left) = (Vec::new(alloc), Vec::new(alloc));
-    rows.add_left(
-        &program.instructions,
-        &(start..end),
-        &keys,
+    add_left(
+        tried,
+        range,
+        name,
+        matcher,
+        Some(&hashes),
         &mut found,
         &mut left,
     )?;
-    let mut addresses = Vec::new(alloc);
-    for address in &left {
-        addresses.push(*address as usize)?;
-    }
-    Ok(addresses)
+    Ok(left)
 }
 
-fn is_row(alloc: Global, program: &Program, rows: &Rows, row: &Row) -> Result<bool, Fail> {
-    let ((name, pairs), named, opens, keyed) = row;
-    let name = LocalName::new(name.as_bytes());
+/// Whether a tag leaves these addresses.
+fn leaves(
+    alloc: Global,
+    tried: &WithRows,
+    (name, pairs): &Tag<'_>,
+    wanted: &[u32],
+) -> Result<bool, AllocError> {
     let attributes = attributes(alloc, pairs)?;
     let matcher = matcher(&attributes);
-    let all = (0, program.instructions.len());
-    Ok(
-        by_rows(alloc, program, rows, all, &name, None)?.as_slice() == *named
-            && rows.has_open(
-                &program.instructions,
-                &(0..program.instructions.len()),
-                &name,
-                &name_hashes(&name),
-            ) == *opens
-            && by_rows(alloc, program, rows, all, &name, Some(&matcher))?.as_slice() == *keyed,
-    )
+    let name = LocalName::new(name.as_bytes());
+    let left = by_rows(alloc, tried, &all(tried), &name, Some(&matcher))?;
+    Ok(left.as_slice() == wanted)
+}
+
+/// Whether a tag's name leaves these addresses, and whether one of these is known to need attributes.
+fn leaves_by_name(
+    alloc: Global,
+    tried: &WithRows,
+    name: &str,
+    wanted: &[u32],
+    open: bool,
+) -> Result<bool, AllocError> {
+    let name = LocalName::new(name.as_bytes());
+    let left = by_rows(alloc, tried, &all(tried), &name, None)?;
+    Ok(left.as_slice() == wanted && has_open(tried, &all(tried), &name) == open)
+}
+
+fn is_row(alloc: Global, tried: &WithRows, row: &Row<'_>) -> Result<bool, AllocError> {
+    let (tag, named, open, keyed) = row;
+    Ok(leaves_by_name(alloc, tried, tag.0, named, *open)? && leaves(alloc, tried, tag, keyed)?)
 }
 
 /// Whether the rows of a program leave what is counted by hand.
-fn are_rows(alloc: Global, program: &Program, rows: &Rows) -> Result<bool, Fail> {
-    for row in &ROWS {
-        if !is_row(alloc, program, rows, row)? {
+fn are_rows(alloc: Global, tried: &WithRows, rows: &[Row<'_>]) -> Result<bool, AllocError> {
+    for row in rows {
+        if !is_row(alloc, tried, row)? {
             return Ok(false);
         }
     }
     Ok(true)
 }
 
+fn expect_counted(
+    rt: &impl Abort,
+    alloc: Global,
+    tried: &WithRows,
+    rows: &[Row<'_>],
+) -> Result<(), Fail> {
+    assert!(rt; are_rows(alloc, tried, rows)?);
+    Ok(())
+}
+
 #[test]
 fn leave_what_is_counted_by_hand(rt: HostRuntime) -> Result<(), Fail> {
-    let program = program(rt.alloc(), SELECTORS, &[])?;
-    let rows = Rows::of(rt.alloc(), &program.instructions)?;
-    assert!(rt; are_rows(rt.alloc(), &program, &rows)?);
-    Ok(())
+    check(&rt, rt.alloc(), &[SELECTORS], Counted(&ROWS))
 }
 
 /// The same in a range that is long enough to be looked up.
 #[test]
 fn leave_the_same_of_a_long_range(rt: HostRuntime) -> Result<(), Fail> {
-    let program = program(rt.alloc(), SELECTORS, OTHERS)?;
-    let rows = Rows::of(rt.alloc(), &program.instructions)?;
-    assert!(rt; are_rows(rt.alloc(), &program, &rows)?);
-    Ok(())
+    check(&rt, rt.alloc(), &[SELECTORS, OTHERS], Counted(&ROWS))
 }
 
 /// The program of `SELECTORS`, by a compiler with rows or without, and of a tree with rows or without.
@@ -237,9 +303,7 @@ fn made(alloc: Global, by_compiler: bool, by_tree: bool) -> Result<Program, Fail
     if by_tree {
         ast = ast.with_rows();
     }
-    for text in SELECTORS {
-        ast.add_selector(&Selector::from_str(alloc, text)?, 0)?;
-    }
+    add_lines(alloc, &mut ast, SELECTORS)?;
     let mut compiler = Compiler::new(alloc);
     if by_compiler {
         compiler = compiler.with_rows();
@@ -248,20 +312,33 @@ fn made(alloc: Global, by_compiler: bool, by_tree: bool) -> Result<Program, Fail
 }
 
 /// Whether a program has rows, which leave what is counted by hand.
-fn has_its_rows(alloc: Global, program: &Program) -> Result<bool, Fail> {
-    let Some(rows) = &program.rows else {
-        return Ok(false);
-    };
-    are_rows(alloc, program, rows)
+fn has_its_rows(
+    alloc: Global,
+    mut program: Program,
+    wanted: &[Row<'_>],
+) -> Result<bool, AllocError> {
+    match program.rows.take() {
+        Some(rows) => are_rows(alloc, &WithRows { program, rows }, wanted),
+        None => Ok(false),
+    }
+}
+
+/// Whether the program of a compiler and a tree has its rows where one of these was asked for them, and none otherwise.
+fn has_rows_as_asked(
+    alloc: Global,
+    by_compiler: bool,
+    by_tree: bool,
+    wanted: &[Row<'_>],
+) -> Result<bool, Fail> {
+    let program = made(alloc, by_compiler, by_tree)?;
+    Ok(has_its_rows(alloc, program, wanted)? == (by_compiler || by_tree))
 }
 
 #[test]
 fn are_made_where_they_are_asked_for(rt: HostRuntime) -> Result<(), Fail> {
-    let alloc = rt.alloc();
     for by_tree in [false, true] {
         for by_compiler in [false, true] {
-            let program = made(alloc, by_compiler, by_tree)?;
-            assert!(rt; has_its_rows(alloc, &program)? == (by_compiler || by_tree));
+            assert!(rt; has_rows_as_asked(rt.alloc(), by_compiler, by_tree, &ROWS)?);
         }
     }
     Ok(())
@@ -270,55 +347,75 @@ fn are_made_where_they_are_asked_for(rt: HostRuntime) -> Result<(), Fail> {
 /// How many of a range a name leaves, and how many of these were looked up.
 fn met(
     alloc: Global,
-    program: &Program,
-    rows: &Rows,
-    (start, end): (usize, usize),
+    tried: &WithRows,
+    range: &Range<usize>,
     name: &[u8],
 ) -> Result<(usize, usize), AllocError> {
     let name = LocalName::new(name);
     let hashes = name_hashes(&name);
-    let keys = TagKeys::new(&name, None, Some(&hashes));
     let (mut found, mut left) = (Vec::new(alloc), Vec::new(alloc));
-    rows.add_left(
-        &program.instructions,
-        &(start..end),
-        &keys,
+    add_left(
+        tried,
+        range,
+        &name,
+        None,
+        Some(&hashes),
         &mut found,
         &mut left,
     )?;
     Ok((left.len(), found.len()))
 }
 
+/// The start and the end of a range.
+type Ends = (usize, usize);
+
+/// A range, how many of it are left, and how many of these are looked up.
+type MetRow = (Ends, (usize, usize));
+
+/// Expects `p` to leave so many of each range, and so many of these to be looked up.
+fn expect_met(
+    rt: &impl Abort,
+    alloc: Global,
+    tried: &WithRows,
+    rows: &[MetRow],
+) -> Result<(), Fail> {
+    for ((start, end), counts) in rows {
+        let met = met(alloc, tried, &(*start..*end), b"p")?;
+        assert!(rt; met == *counts, "{start}");
+    }
+    Ok(())
+}
+
+static LOOKED_UP: [MetRow; 4] = [
+    ((0, 49), (11, 11)),
+    ((1, 49), (11, 11)),
+    ((2, 49), (10, 0)),
+    ((49, 2), (0, 0)),
+];
+
 #[test]
 fn look_up_only_long_ranges(rt: HostRuntime) -> Result<(), Fail> {
-    let program = program(rt.alloc(), SELECTORS, OTHERS)?;
-    let rows = Rows::of(rt.alloc(), &program.instructions)?;
-    let alloc = rt.alloc();
-    assert!(rt; met(alloc, &program, &rows, (0, 49), b"p")? == (11, 11));
-    assert!(rt; met(alloc, &program, &rows, (1, 49), b"p")? == (11, 11));
-    assert!(rt; met(alloc, &program, &rows, (2, 49), b"p")? == (10, 0));
-    assert!(rt; met(alloc, &program, &rows, (49, 2), b"p")? == (0, 0));
-    Ok(())
+    check(&rt, rt.alloc(), &[SELECTORS, OTHERS], LooksUp(&LOOKED_UP))
 }
 
 /// What is left of a range by a look at each.
 fn each_left(
     alloc: Global,
     instructions: &[Instruction],
-    (start, end): (usize, usize),
+    range: &Range<usize>,
     name: &LocalName<'_>,
     matcher: Option<&AttributeMatcher<'_>>,
-) -> Result<Vec<usize>, AllocError> {
+) -> Result<Vec<u32>, AllocError> {
     let mut left = Vec::new(alloc);
-    for (address, instruction) in instructions.iter().enumerate() {
-        if start <= address && address < end && leaves(instruction, name, matcher) {
+    for (instruction, address) in instructions.iter().zip(0..u32::MAX) {
+        if range.contains(&(address as usize)) && is_left(instruction, name, matcher) {
             left.push(address)?;
         }
     }
     Ok(left)
 }
 
-fn leaves(
+fn is_left(
     instruction: &Instruction,
     name: &LocalName<'_>,
     matcher: Option<&AttributeMatcher<'_>>,
@@ -331,50 +428,37 @@ fn leaves(
     !predicate.has_other_name(name) && !lacks
 }
 
-fn some_open(
-    instructions: &[Instruction],
-    (start, end): (usize, usize),
-    name: &LocalName<'_>,
-) -> bool {
+fn some_open(instructions: &[Instruction], range: &Range<usize>, name: &LocalName<'_>) -> bool {
     for (address, instruction) in instructions.iter().enumerate() {
-        let predicate = &instruction.predicate;
-        if start <= address
-            && address < end
-            && !predicate.has_other_name(name)
-            && predicate.opens_where_named()
-        {
+        if range.contains(&address) && is_open(instruction, name) {
             return true;
         }
     }
     false
 }
 
-fn are_alike(
-    alloc: Global,
-    program: &Program,
-    rows: &Rows,
-    range: (usize, usize),
-    (name, pairs): &Tag,
-) -> Result<bool, Fail> {
-    let name = LocalName::new(name.as_bytes());
-    let attributes = attributes(alloc, pairs)?;
-    let matcher = matcher(&attributes);
-    let instructions = &program.instructions;
-    Ok(
-        by_rows(alloc, program, rows, range, &name, None)?
-            == each_left(alloc, instructions, range, &name, None)?
-            && by_rows(alloc, program, rows, range, &name, Some(&matcher))?
-                == each_left(alloc, instructions, range, &name, Some(&matcher))?
-            && rows.has_open(
-                instructions,
-                &(range.0..range.1),
-                &name,
-                &name_hashes(&name),
-            ) == some_open(instructions, range, &name),
-    )
+fn is_open(instruction: &Instruction, name: &LocalName<'_>) -> bool {
+    !instruction.predicate.has_other_name(name) && instruction.predicate.opens_where_named()
 }
 
-const TAGS: &[Tag] = &[
+/// Whether rows leave of a range what a look at each leaves.
+fn leaves_alike<'t>(
+    alloc: Global,
+    tried: &WithRows,
+    range: &Range<usize>,
+    name: &'t LocalName<'t>,
+    matcher: Option<&'t AttributeMatcher<'t>>,
+) -> Result<bool, AllocError> {
+    let each = each_left(alloc, &tried.program.instructions, range, name, matcher)?;
+    Ok(by_rows(alloc, tried, range, name, matcher)? == each)
+}
+
+/// Whether rows say of a range what a look at each says: whether one is known to need attributes.
+fn opens_alike(tried: &WithRows, range: &Range<usize>, name: &LocalName<'_>) -> bool {
+    some_open(&tried.program.instructions, range, name) == has_open(tried, range, name)
+}
+
+static TAGS: [Tag<'static>; 5] = [
     ("p", &[]),
     ("P", &[("class", "a b")]),
     ("div", &[("id", "i"), ("href", "")]),
@@ -382,94 +466,143 @@ const TAGS: &[Tag] = &[
     ("x", &[("class", "a\x0ca")]),
 ];
 
-#[test]
-fn leave_what_a_look_at_each_leaves(rt: HostRuntime) -> Result<(), Fail> {
-    let alloc = rt.alloc();
-    let program = program(alloc, SELECTORS, &[])?;
-    let rows = Rows::of(alloc, &program.instructions)?;
-    for tag in TAGS {
-        for start in 0..=14 {
-            for end in 0..=14 {
-                assert!(rt; are_alike(alloc, &program, &rows, (start, end), tag)?);
-            }
+/// How rows are asked.
+#[derive(Clone, Copy)]
+enum Asked {
+    /// For what a tag leaves, and whether its name is known to need attributes.
+    Once,
+    /// To add what a tag leaves to a list, twice.
+    Twice,
+}
+
+fn is_alike<'t>(
+    alloc: Global,
+    tried: &WithRows,
+    range: &Range<usize>,
+    asked: Asked,
+    name: &'t LocalName<'t>,
+    matcher: Option<&'t AttributeMatcher<'t>>,
+) -> Result<bool, AllocError> {
+    match asked {
+        Asked::Once => {
+            Ok(opens_alike(tried, range, name) && leaves_alike(alloc, tried, range, name, matcher)?)
+        }
+        Asked::Twice => adds_alike(alloc, tried, range, name, matcher),
+    }
+}
+
+/// Whether rows answer as a look at each does, by name, and by name and attributes.
+fn are_alike(
+    alloc: Global,
+    tried: &WithRows,
+    range: &Range<usize>,
+    asked: Asked,
+    (name, pairs): &Tag<'_>,
+) -> Result<bool, AllocError> {
+    let name = LocalName::new(name.as_bytes());
+    let attributes = attributes(alloc, pairs)?;
+    let matcher = matcher(&attributes);
+    Ok(
+        is_alike(alloc, tried, range, asked, &name, None)?
+            && is_alike(alloc, tried, range, asked, &name, Some(&matcher))?,
+    )
+}
+
+/// Whether the same holds of each tag.
+fn all_alike(
+    alloc: Global,
+    tried: &WithRows,
+    range: &Range<usize>,
+    asked: Asked,
+    tags: &[Tag<'_>],
+) -> Result<bool, AllocError> {
+    for tag in tags {
+        if !are_alike(alloc, tried, range, asked, tag)? {
+            return Ok(false);
+        }
+    }
+    Ok(true)
+}
+
+/// Expects rows to leave in each range from one of these starts to one of these ends what a look at each leaves.
+fn expect_alike(
+    rt: &impl Abort,
+    alloc: Global,
+    tried: &WithRows,
+    starts: usize,
+    ends: Ends,
+    tags: &[Tag<'_>],
+) -> Result<(), Fail> {
+    for start in 0..starts {
+        for end in ends.0..ends.1 {
+            assert!(rt; all_alike(alloc, tried, &(start..end), Asked::Once, tags)?);
         }
     }
     Ok(())
 }
 
+#[test]
+fn leave_what_a_look_at_each_leaves(rt: HostRuntime) -> Result<(), Fail> {
+    let asked = LeavesAlike(15, (0, 15), &TAGS);
+    check(&rt, rt.alloc(), &[SELECTORS], asked)
+}
+
 /// Ranges of 45 addresses and more, also past the last instruction.
 #[test]
 fn leave_of_long_ranges_what_a_look_at_each_leaves(rt: HostRuntime) -> Result<(), Fail> {
-    let alloc = rt.alloc();
-    let program = program(alloc, SELECTORS, OTHERS)?;
-    let rows = Rows::of(alloc, &program.instructions)?;
-    for tag in TAGS {
-        for start in 0..=5 {
-            for end in 50..=60 {
-                assert!(rt; are_alike(alloc, &program, &rows, (start, end), tag)?);
-            }
-        }
-    }
-    Ok(())
+    let asked = LeavesAlike(6, (50, 61), &TAGS);
+    check(&rt, rt.alloc(), &[SELECTORS, OTHERS], asked)
 }
 
 /// Whether what is added to a list is what a look at each leaves, after what the list had, and in the room that it has, with the hashes of
 /// the tag's keys and without.
 fn adds_alike<'t>(
     alloc: Global,
-    program: &Program,
-    rows: &Rows,
-    (start, end): (usize, usize),
+    tried: &WithRows,
+    range: &Range<usize>,
     name: &'t LocalName<'t>,
     matcher: Option<&'t AttributeMatcher<'t>>,
 ) -> Result<bool, AllocError> {
-    let each = each_left(alloc, &program.instructions, (start, end), name, matcher)?;
-    let hashes = hashes(alloc, rows, name, matcher)?;
-    let hashed = TagKeys::new(name, matcher, Some(&hashes));
-    let unhashed = TagKeys::new(name, matcher, None);
-    let instructions = program.instructions.as_slice();
-    let (mut found, mut twice) = (Vec::new(alloc), Vec::with_capacity(alloc, 2 * each.len())?);
+    let each = each_left(alloc, &tried.program.instructions, range, name, matcher)?;
+    let mut twice = Vec::with_capacity(alloc, 2 * each.len())?;
     let room = twice.capacity();
-    rows.add_left(instructions, &(start..end), &hashed, &mut found, &mut twice)?;
-    rows.add_left(
-        instructions,
-        &(start..end),
-        &unhashed,
-        &mut found,
-        &mut twice,
-    )?;
+    add_twice(alloc, tried, range, name, matcher, &mut twice)?;
     Ok(are_twice(&twice, &each) && twice.capacity() == room)
 }
 
-/// Whether a list is another one twice.
-fn are_twice(twice: &[u32], once: &[usize]) -> bool {
-    let both = once.iter().chain(once);
-    twice.len() == 2 * once.len()
-        && twice
-            .iter()
-            .zip(both)
-            .all(|(one, other)| *one as usize == *other)
+/// Adds what a tag leaves, with the hashes of its keys and without.
+fn add_twice<'t>(
+    alloc: Global,
+    tried: &WithRows,
+    range: &Range<usize>,
+    name: &'t LocalName<'t>,
+    matcher: Option<&'t AttributeMatcher<'t>>,
+    twice: &mut Vec<u32>,
+) -> Result<(), AllocError> {
+    let hashes = hashes(alloc, &tried.rows, name, matcher)?;
+    let mut found = Vec::new(alloc);
+    add_left(
+        tried,
+        range,
+        name,
+        matcher,
+        Some(&hashes),
+        &mut found,
+        twice,
+    )?;
+    add_left(tried, range, name, matcher, None, &mut found, twice)
 }
 
-/// The same by name, and by name and attributes.
-fn add_alike(
-    alloc: Global,
-    program: &Program,
-    rows: &Rows,
-    range: (usize, usize),
-    (name, pairs): &Tag,
-) -> Result<bool, Fail> {
-    let name = LocalName::new(name.as_bytes());
-    let attributes = attributes(alloc, pairs)?;
-    let matcher = matcher(&attributes);
-    Ok(
-        adds_alike(alloc, program, rows, range, &name, None)?
-            && adds_alike(alloc, program, rows, range, &name, Some(&matcher))?,
-    )
+/// Whether a list is another one twice.
+fn are_twice(twice: &[u32], once: &[u32]) -> bool {
+    match twice.split_at_checked(once.len()) {
+        Some((first, second)) => first == once && second == once,
+        None => false,
+    }
 }
 
 /// Short ranges and long ones, also past the last instruction.
-const RANGES: &[(usize, usize)] = &[
+static RANGES: [Ends; 9] = [
     (0, 0),
     (0, 13),
     (3, 9),
@@ -481,200 +614,178 @@ const RANGES: &[(usize, usize)] = &[
     (48, 120),
 ];
 
-#[test]
-fn add_what_a_look_at_each_leaves(rt: HostRuntime) -> Result<(), Fail> {
-    let alloc = rt.alloc();
-    let program = program(alloc, SELECTORS, OTHERS)?;
-    let rows = Rows::of(alloc, &program.instructions)?;
-    for tag in TAGS {
-        for range in RANGES {
-            assert!(rt; add_alike(alloc, &program, &rows, *range, tag)?);
-        }
+/// Expects rows to add in each range what a look at each leaves.
+fn expect_added(
+    rt: &impl Abort,
+    alloc: Global,
+    tried: &WithRows,
+    ranges: &[Ends],
+    tags: &[Tag<'_>],
+) -> Result<(), Fail> {
+    for (start, end) in ranges {
+        let alike = all_alike(alloc, tried, &(*start..*end), Asked::Twice, tags)?;
+        assert!(rt; alike, "{start}");
     }
     Ok(())
 }
 
-fn opens(program: &Program, rows: &Rows, (start, end): (usize, usize), name: &str) -> bool {
-    let name = LocalName::new(name.as_bytes());
-    rows.has_open(
-        &program.instructions,
-        &(start..end),
-        &name,
-        &name_hashes(&name),
-    )
+#[test]
+fn add_what_a_look_at_each_leaves(rt: HostRuntime) -> Result<(), Fail> {
+    let asked = AddsAlike(&RANGES, &TAGS);
+    check(&rt, rt.alloc(), &[SELECTORS, OTHERS], asked)
 }
 
-const FEW: &[&str] = &["p", ":not(.a)", "div.a", "p:nth-child(2).b"];
+fn has_open(tried: &WithRows, range: &Range<usize>, name: &LocalName<'_>) -> bool {
+    let instructions = tried.program.instructions.as_slice();
+    tried
+        .rows
+        .has_open(instructions, range, name, &name_hashes(name))
+}
+
+const FEW: &str = "p\n:not(.a)\ndiv.a\np:nth-child(2).b";
 
 /// 48 selectors with no test of attributes.
-const PLAIN: &[&str] = &[
-    "h1:nth-child(1)",
-    "h1:nth-child(2)",
-    "h1:nth-child(3)",
-    "h1:nth-child(4)",
-    "h1:nth-child(5)",
-    "h1:nth-child(6)",
-    "h1:nth-child(7)",
-    "h1:nth-child(8)",
-    "h2:nth-child(1)",
-    "h2:nth-child(2)",
-    "h2:nth-child(3)",
-    "h2:nth-child(4)",
-    "h2:nth-child(5)",
-    "h2:nth-child(6)",
-    "h2:nth-child(7)",
-    "h2:nth-child(8)",
-    "h3:nth-child(1)",
-    "h3:nth-child(2)",
-    "h3:nth-child(3)",
-    "h3:nth-child(4)",
-    "h3:nth-child(5)",
-    "h3:nth-child(6)",
-    "h3:nth-child(7)",
-    "h3:nth-child(8)",
-    "h4:nth-child(1)",
-    "h4:nth-child(2)",
-    "h4:nth-child(3)",
-    "h4:nth-child(4)",
-    "h4:nth-child(5)",
-    "h4:nth-child(6)",
-    "h4:nth-child(7)",
-    "h4:nth-child(8)",
-    "h5:nth-child(1)",
-    "h5:nth-child(2)",
-    "h5:nth-child(3)",
-    "h5:nth-child(4)",
-    "h5:nth-child(5)",
-    "h5:nth-child(6)",
-    "h5:nth-child(7)",
-    "h5:nth-child(8)",
-    "h6:nth-child(1)",
-    "h6:nth-child(2)",
-    "h6:nth-child(3)",
-    "h6:nth-child(4)",
-    "h6:nth-child(5)",
-    "h6:nth-child(6)",
-    "h6:nth-child(7)",
-    "h6:nth-child(8)",
+const PLAIN: &str = "\
+    h1:nth-child(1)\nh1:nth-child(2)\nh1:nth-child(3)\nh1:nth-child(4)\n\
+    h1:nth-child(5)\nh1:nth-child(6)\nh1:nth-child(7)\nh1:nth-child(8)\n\
+    h2:nth-child(1)\nh2:nth-child(2)\nh2:nth-child(3)\nh2:nth-child(4)\n\
+    h2:nth-child(5)\nh2:nth-child(6)\nh2:nth-child(7)\nh2:nth-child(8)\n\
+    h3:nth-child(1)\nh3:nth-child(2)\nh3:nth-child(3)\nh3:nth-child(4)\n\
+    h3:nth-child(5)\nh3:nth-child(6)\nh3:nth-child(7)\nh3:nth-child(8)\n\
+    h4:nth-child(1)\nh4:nth-child(2)\nh4:nth-child(3)\nh4:nth-child(4)\n\
+    h4:nth-child(5)\nh4:nth-child(6)\nh4:nth-child(7)\nh4:nth-child(8)\n\
+    h5:nth-child(1)\nh5:nth-child(2)\nh5:nth-child(3)\nh5:nth-child(4)\n\
+    h5:nth-child(5)\nh5:nth-child(6)\nh5:nth-child(7)\nh5:nth-child(8)\n\
+    h6:nth-child(1)\nh6:nth-child(2)\nh6:nth-child(3)\nh6:nth-child(4)\n\
+    h6:nth-child(5)\nh6:nth-child(6)\nh6:nth-child(7)\nh6:nth-child(8)";
+
+/// A range, a name, and whether the range has a selector of the name that is known to need attributes.
+type Open<'t> = (Ends, &'t str, bool);
+
+fn expect_open(rt: &impl Abort, tried: &WithRows, rows: &[Open<'_>]) {
+    for ((start, end), name, open) in rows {
+        let local_name = LocalName::new(name.as_bytes());
+        let has_open = has_open(tried, &(*start..*end), &local_name);
+        assert!(rt; has_open == *open, "{name}");
+    }
+}
+
+static OPEN: [Open<'static>; 3] = [
+    ((0, 4), "p", false),
+    ((0, 4), "DIV", true),
+    ((0, 2), "div", false),
 ];
 
-/// Selectors of a name, of which none is known to need attributes.
 #[test]
 fn know_what_needs_attributes(rt: HostRuntime) -> Result<(), Fail> {
-    let program = program(rt.alloc(), FEW, &[])?;
-    let rows = Rows::of(rt.alloc(), &program.instructions)?;
-    assert!(rt; !opens(&program, &rows, (0, 4), "p"));
-    assert!(rt; opens(&program, &rows, (0, 4), "DIV"));
-    assert!(rt; !opens(&program, &rows, (0, 2), "div"));
-    Ok(())
+    check(&rt, rt.alloc(), &[FEW], Opens(&OPEN))
 }
 
 /// The same, looked up.
+static OPEN_IN_LONG: [Open<'static>; 3] = [
+    ((0, 52), "p", false),
+    ((0, 52), "DIV", true),
+    ((3, 52), "div", false),
+];
+
 #[test]
 fn know_what_needs_attributes_in_a_long_range(rt: HostRuntime) -> Result<(), Fail> {
-    let program = program(rt.alloc(), FEW, PLAIN)?;
-    let rows = Rows::of(rt.alloc(), &program.instructions)?;
-    assert!(rt; !opens(&program, &rows, (0, 52), "p"));
-    assert!(rt; opens(&program, &rows, (0, 52), "DIV"));
-    assert!(rt; !opens(&program, &rows, (3, 52), "div"));
-    Ok(())
+    check(&rt, rt.alloc(), &[FEW, PLAIN], Opens(&OPEN_IN_LONG))
 }
 
-/// Selectors of two classes of one hash, among others.
-fn shared_hash(alloc: Global) -> Result<Program, Fail> {
-    let mut ast = Ast::new(alloc);
-    ast.add_selector(&Selector::from_str(alloc, ".c27820")?, 0)?;
-    for text in PLAIN {
-        ast.add_selector(&Selector::from_str(alloc, text)?, 0)?;
-    }
-    for text in ["x.c154553", "x.c27820", ".c154553", "p.c27820"] {
-        ast.add_selector(&Selector::from_str(alloc, text)?, 0)?;
-    }
-    Ok(Compiler::new(alloc).compile(ast)?)
-}
-
-/// What a tag `x` with a class leaves of these, and the hash of the class.
-fn left_of_shared(
-    alloc: Global,
-    program: &Program,
-    class: &str,
-) -> Result<(Vec<usize>, Option<u32>), Fail> {
-    let rows = Rows::of(alloc, &program.instructions)?;
-    let name = LocalName::new(b"x");
+/// The hash of the class of a tag `x`.
+fn class_hash(alloc: Global, rows: &Rows, class: &str) -> Result<Option<u32>, AllocError> {
     let attributes = attributes(alloc, &[("class", class)])?;
     let matcher = matcher(&attributes);
-    let all = (0, program.instructions.len());
-    let left = by_rows(alloc, program, &rows, all, &name, Some(&matcher))?;
-    let hashes = hashes(alloc, &rows, &name, Some(&matcher))?;
-    Ok((left, hashes.get(2).copied()))
+    let hashes = hashes(alloc, rows, &LocalName::new(b"x"), Some(&matcher))?;
+    Ok(hashes.get(2).copied())
+}
+
+fn are_of_one_hash(
+    alloc: Global,
+    rows: &Rows,
+    class: &str,
+    other: &str,
+) -> Result<bool, AllocError> {
+    let hash = class_hash(alloc, rows, class)?;
+    Ok(hash.is_some() && hash == class_hash(alloc, rows, other)?)
+}
+
+/// Whether a tag `x` with this class leaves these addresses.
+fn leaves_of_class(
+    alloc: Global,
+    tried: &WithRows,
+    class: &str,
+    wanted: &[u32],
+) -> Result<bool, AllocError> {
+    leaves(alloc, tried, &("x", &[("class", class)]), wanted)
+}
+
+/// Whether tags of two classes of one hash leave what is theirs, of selectors of both among others.
+fn are_told_apart(alloc: Global, tried: &WithRows) -> Result<bool, AllocError> {
+    Ok(
+        are_of_one_hash(alloc, &tried.rows, "c27820", "c154553")?
+            && leaves_of_class(alloc, tried, "c27820", &[0, 50])?
+            && leaves_of_class(alloc, tried, "c154553", &[49, 51])?,
+    )
+}
+
+fn expect_told_apart(rt: &impl Abort, alloc: Global, tried: &WithRows) -> Result<(), Fail> {
+    assert!(rt; are_told_apart(alloc, tried)?);
+    Ok(())
 }
 
 /// Keys that share a hash are looked at one by one.
 #[test]
 fn tell_keys_of_one_hash_apart(rt: HostRuntime) -> Result<(), Fail> {
-    let program = shared_hash(rt.alloc())?;
-    let (one, hash) = left_of_shared(rt.alloc(), &program, "c27820")?;
-    let (other, same) = left_of_shared(rt.alloc(), &program, "c154553")?;
-    assert!(rt; hash.is_some() && hash == same);
-    assert!(rt; one[..] == [0, 50]);
-    assert!(rt; other[..] == [49, 51]);
-    Ok(())
+    let others = "x.c154553\nx.c27820\n.c154553\np.c27820";
+    check(&rt, rt.alloc(), &[".c27820", PLAIN, others], TellsApart)
 }
 
-/// After the plain ones: a part of a value, one without case, one too short, a part of a second test, and a part of a word.
-const PARTS: [&str; 5] = [
-    "a[href^='http://xyz']",
-    "[href$='.html' i]",
-    "[href*='ads']",
-    "a[href][title='long text']",
-    "[data-k~=wordy]",
-];
+/// After the plain ones, from 48: a part of a value, one without case, one too short, a part of a second test, and a part of a word.
+const PARTS: &str = "\
+a[href^='http://xyz']
+[href$='.html' i]
+[href*='ads']
+a[href][title='long text']
+[data-k~=wordy]";
 
-/// A tag, and which of these it leaves.
-type PartRow = (
-    (&'static str, &'static [(&'static str, &'static str)]),
-    &'static [usize],
-);
-
-const PART_ROWS: [PartRow; 8] = [
-    (("a", &[("href", "http://xyz/q")]), &[0, 1, 2]),
-    (("a", &[("href", "http://XYZ/q")]), &[1, 2]),
-    (("b", &[("HREF", "http://xyz/q")]), &[1, 2]),
-    (("a", &[("href", "http"), ("href", "http://xyz")]), &[1, 2]),
-    (("a", &[("href", "xyz"), ("title", "no text")]), &[1, 2, 3]),
+/// Tags, and which of these each leaves, by address.
+static PART_ROWS: [LeftRow<'static>; 8] = [
+    (("a", &[("href", "http://xyz/q")]), &[48, 49, 50]),
+    (("a", &[("href", "http://XYZ/q")]), &[49, 50]),
+    (("b", &[("HREF", "http://xyz/q")]), &[49, 50]),
+    (
+        ("a", &[("href", "http"), ("href", "http://xyz")]),
+        &[49, 50],
+    ),
+    (
+        ("a", &[("href", "xyz"), ("title", "no text")]),
+        &[49, 50, 51],
+    ),
     (("a", &[("title", "a tex t")]), &[]),
-    (("p", &[("data-k", "a wordy b")]), &[4]),
+    (("p", &[("data-k", "a wordy b")]), &[52]),
     (("p", &[("data-k", "a word b"), ("class", "wordy")]), &[]),
 ];
 
-fn leaves_parts(
+/// A tag, and the addresses that it leaves.
+type LeftRow<'t> = (Tag<'t>, &'t [u32]);
+
+/// Expects each tag to leave these addresses.
+fn expect_left(
+    rt: &impl Abort,
     alloc: Global,
-    program: &Program,
-    rows: &Rows,
-    row: &PartRow,
-) -> Result<bool, AllocError> {
-    let ((name, pairs), wanted) = row;
-    let name = LocalName::new(name.as_bytes());
-    let attributes = attributes(alloc, pairs)?;
-    let matcher = matcher(&attributes);
-    let all = (0, program.instructions.len());
-    let left = by_rows(alloc, program, rows, all, &name, Some(&matcher))?;
-    let mut parts = Vec::new(alloc);
-    for address in &left {
-        if let Some(index) = address.checked_sub(PLAIN.len()) {
-            parts.push(index)?;
-        }
+    tried: &WithRows,
+    rows: &[LeftRow<'_>],
+) -> Result<(), Fail> {
+    for (tag, wanted) in rows {
+        assert!(rt; leaves(alloc, tried, tag, wanted)?);
     }
-    Ok(parts.as_slice() == *wanted)
+    Ok(())
 }
 
 /// A node whose operand is compared with case is left where the value has the last bytes of the operand.
 #[test]
 fn leave_what_has_a_part_of_the_operand(rt: HostRuntime) -> Result<(), Fail> {
-    let program = program(rt.alloc(), &PLAIN, &PARTS)?;
-    let rows = Rows::of(rt.alloc(), &program.instructions)?;
-    for row in &PART_ROWS {
-        assert!(rt; leaves_parts(rt.alloc(), &program, &rows, row)?);
-    }
-    Ok(())
+    check(&rt, rt.alloc(), &[PLAIN, PARTS], Leaves(&PART_ROWS))
 }

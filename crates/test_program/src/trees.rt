@@ -1,7 +1,9 @@
 //! Texts with the nodes that they make.
 
-use crate::nodes::selectors;
-use lol_css::{AttrSelectorOperator, ParsedCaseSensitivity, Selector};
+use crate::nodes::{
+    Row, add, add_parts, alone, compound, expect, expect_rows, negated, node_count, part,
+};
+use lol_css::{AttrSelectorOperator, ParsedCaseSensitivity};
 use lol_program::{
     Ast, AstNode, AttributeComparisonExpr, OnAttributesExpr, OnTagNameExpr, Predicate, Test,
 };
@@ -11,8 +13,7 @@ use std::test::Fail;
 /// The tree of one text under 0.
 fn tree(alloc: Global, text: &str) -> Result<Ast, Fail> {
     let mut ast = Ast::new(alloc);
-    let selector = Selector::from_str(alloc, text)?;
-    ast.add_selector(&selector, 0)?;
+    add(alloc, &mut ast, text, 0)?;
     Ok(ast)
 }
 
@@ -31,7 +32,7 @@ fn is_one_node(ast: &Ast, predicate: &Predicate) -> bool {
 }
 
 /// Whether a text makes one node, with these tests and the id 0.
-fn makes(alloc: Global, text: &str, predicate: &Predicate) -> Result<bool, Fail> {
+pub(crate) fn makes(alloc: Global, text: &str, predicate: &Predicate) -> Result<bool, Fail> {
     Ok(is_one_node(&tree(alloc, text)?, predicate))
 }
 
@@ -40,182 +41,164 @@ fn makes_test(alloc: Global, text: &str, test: Test) -> Result<bool, Fail> {
     makes(alloc, text, &alone(alloc, test)?)
 }
 
-/// A compound of one test.
-fn alone(alloc: Global, test: Test) -> Result<Predicate, AllocError> {
-    Ok(Predicate {
-        tests: vec![in alloc; test]?,
-    })
-}
+/// A text that makes the test of `div`, in so many `:not`.
+struct Negated<'t>(&'t str, u32);
 
-/// A test in so many `:not`.
-fn negated(alloc: Global, test: Test, times: u32) -> Result<Test, AllocError> {
-    let mut test = test;
-    for _ in 0..times {
-        test = Test::NoneOf(vec![in alloc; alone(alloc, test)?]?);
+impl Row for Negated<'_> {
+    fn holds(&self, alloc: Global) -> Result<bool, Fail> {
+        let test = negated(alloc, part(alloc, "div")?, self.1)?;
+        makes_test(alloc, self.0, test)
     }
-    Ok(test)
 }
 
-fn name(alloc: Global, name: &str) -> Result<Test, AllocError> {
-    let name = String::from_str(alloc, name)?;
-    Ok(Test::Name(OnTagNameExpr::LocalName(name)))
-}
-
-/// Names, in so many `:not`.
-const NEGATED: [(&str, u32); 4] = [
-    ("div", 0),
-    (":not(div)", 1),
-    (":not(:not(div))", 2),
-    (":not(:not(:not(div)))", 3),
+static NEGATED: [Negated<'static>; 4] = [
+    Negated("div", 0),
+    Negated(":not(div)", 1),
+    Negated(":not(:not(div))", 2),
+    Negated(":not(:not(:not(div)))", 3),
 ];
 
-/// Whether a text makes the test of `div`, in so many `:not`.
-fn makes_negated(alloc: Global, text: &str, times: u32) -> Result<bool, Fail> {
-    let test = negated(alloc, name(alloc, "div")?, times)?;
-    makes_test(alloc, text, test)
+fn makes_any(alloc: Global, text: &str) -> Result<bool, Fail> {
+    makes_test(alloc, text, Test::Name(OnTagNameExpr::ExplicitAny))
 }
 
 #[test]
 fn of_names(rt: HostRuntime) -> Result<(), Fail> {
-    let alloc = rt.alloc();
-    assert!(rt; makes_test(alloc, "*", Test::Name(OnTagNameExpr::ExplicitAny))?);
-    for (text, times) in &NEGATED {
-        assert!(rt; makes_negated(alloc, text, *times)?, "{text}");
-    }
-    Ok(())
+    expect(&rt, makes_any(rt.alloc(), "*"))?;
+    expect_rows(&rt, rt.alloc(), &NEGATED)
+}
+
+fn pair(alloc: Global, one: Predicate, other: Predicate) -> Result<Vec<Predicate>, AllocError> {
+    Ok(vec![in alloc; one, other]?)
 }
 
 /// The compounds `a` and `b`.
 fn a_and_b(alloc: Global) -> Result<Vec<Predicate>, AllocError> {
-    let a = alone(alloc, name(alloc, "a")?)?;
-    let b = alone(alloc, name(alloc, "b")?)?;
-    Ok(vec![in alloc; a, b]?)
+    let a = compound(alloc, "a")?;
+    pair(alloc, a, compound(alloc, "b")?)
+}
+
+/// Whether a text makes the test that some of `a` and `b` is passed.
+fn makes_some(alloc: Global, text: &str) -> Result<bool, Fail> {
+    makes_test(alloc, text, Test::SomeOf(a_and_b(alloc)?))
+}
+
+/// Whether a text makes the test that none of `a` and `b` is passed.
+fn makes_none(alloc: Global, text: &str) -> Result<bool, Fail> {
+    makes_test(alloc, text, Test::NoneOf(a_and_b(alloc)?))
 }
 
 #[test]
 fn of_lists(rt: HostRuntime) -> Result<(), Fail> {
-    let alloc = rt.alloc();
-    assert!(rt; makes_test(alloc, ":not(a, b)", Test::NoneOf(a_and_b(alloc)?))?);
-    for text in [":is(a, b)", ":where(a, b)"] {
-        assert!(rt;
-            makes_test(alloc, text, Test::SomeOf(a_and_b(alloc)?))?,
-            "{text}"
-        );
-    }
-    Ok(())
+    expect(&rt, makes_none(rt.alloc(), ":not(a, b)"))?;
+    expect(&rt, makes_some(rt.alloc(), ":is(a, b)"))?;
+    expect(&rt, makes_some(rt.alloc(), ":where(a, b)"))
 }
 
 /// The compounds `a.x` and `p`: the parts inside a function stand in written order.
 fn a_x_and_p(alloc: Global) -> Result<Vec<Predicate>, AllocError> {
-    let tests = vec![in alloc; name(alloc, "a")?, class(alloc, "x")?]?;
-    let p = alone(alloc, name(alloc, "p")?)?;
-    Ok(vec![in alloc; Predicate { tests }, p]?)
+    let mut a_x = compound(alloc, "a")?;
+    add_parts(alloc, &mut a_x.tests, &[".x"])?;
+    pair(alloc, a_x, compound(alloc, "p")?)
+}
+
+fn makes_a_x_and_p(alloc: Global, text: &str) -> Result<bool, Fail> {
+    makes_test(alloc, text, Test::SomeOf(a_x_and_p(alloc)?))
 }
 
 #[test]
 fn of_parts_in_functions(rt: HostRuntime) -> Result<(), Fail> {
-    let alloc = rt.alloc();
-    let some = Test::SomeOf(a_x_and_p(alloc)?);
-    assert!(rt; makes_test(alloc, ":is(a.x, p)", some)?);
-    Ok(())
+    expect(&rt, makes_a_x_and_p(rt.alloc(), ":is(a.x, p)"))
 }
 
-fn id(alloc: Global, id: &str) -> Result<Test, AllocError> {
-    let id = String::from_str(alloc, id)?;
-    Ok(Test::Attribute(OnAttributesExpr::Id(id)))
+/// A text, and the part that it makes.
+struct Part<'t>(&'t str, &'t str);
+
+impl Row for Part<'_> {
+    fn holds(&self, alloc: Global) -> Result<bool, Fail> {
+        makes_test(alloc, self.0, part(alloc, self.1)?)
+    }
 }
 
-fn class(alloc: Global, class: &str) -> Result<Test, AllocError> {
-    let class = String::from_str(alloc, class)?;
-    Ok(Test::Attribute(OnAttributesExpr::Class(class)))
-}
-
-fn existence(alloc: Global, name: &str) -> Result<Test, AllocError> {
-    let name = String::from_str(alloc, name)?;
-    Ok(Test::Attribute(OnAttributesExpr::AttributeExists(name)))
-}
+static PARTS: [Part<'static>; 4] = [
+    Part("#foo", "#foo"),
+    Part(".bar", ".bar"),
+    Part("[foo]", "[foo"),
+    Part("[FOO]", "[foo"),
+];
 
 #[test]
 fn of_attributes(rt: HostRuntime) -> Result<(), Fail> {
-    let alloc = rt.alloc();
-    assert!(rt; makes_test(alloc, "#foo", id(alloc, "foo")?)?);
-    assert!(rt; makes_test(alloc, ".bar", class(alloc, "bar")?)?);
-    for text in ["[foo]", "[FOO]"] {
-        assert!(rt;
-            makes_test(alloc, text, existence(alloc, "foo")?)?,
-            "{text}"
-        );
-    }
-    Ok(())
+    expect_rows(&rt, rt.alloc(), &PARTS)
 }
 
 /// A comparison, with its operator, value and case rule, and in how many `:not` it stands.
-type Comparison = (
-    &'static str,
+struct Comparison<'t>(
+    &'t str,
     AttrSelectorOperator,
-    &'static str,
+    &'t str,
     ParsedCaseSensitivity,
     u32,
 );
 
-const COMPARISONS: [Comparison; 9] = [
-    (
+static COMPARISONS: [Comparison<'static>; 9] = [
+    Comparison(
         "[foo=\"bar\"]",
         AttrSelectorOperator::Equal,
         "bar",
         ParsedCaseSensitivity::CaseSensitive,
         0,
     ),
-    (
+    Comparison(
         "[FOO=\"bar\"]",
         AttrSelectorOperator::Equal,
         "bar",
         ParsedCaseSensitivity::CaseSensitive,
         0,
     ),
-    (
+    Comparison(
         "[foo*=\"\"]",
         AttrSelectorOperator::Substring,
         "",
         ParsedCaseSensitivity::CaseSensitive,
         0,
     ),
-    (
+    Comparison(
         "[foo~=\"bar\" i]",
         AttrSelectorOperator::Includes,
         "bar",
         ParsedCaseSensitivity::AsciiCaseInsensitive,
         0,
     ),
-    (
+    Comparison(
         "[foo|=\"bar\" s]",
         AttrSelectorOperator::DashMatch,
         "bar",
         ParsedCaseSensitivity::ExplicitCaseSensitive,
         0,
     ),
-    (
+    Comparison(
         "[foo^=\"bar\"]",
         AttrSelectorOperator::Prefix,
         "bar",
         ParsedCaseSensitivity::CaseSensitive,
         0,
     ),
-    (
+    Comparison(
         "[foo*=\"bar\"]",
         AttrSelectorOperator::Substring,
         "bar",
         ParsedCaseSensitivity::CaseSensitive,
         0,
     ),
-    (
+    Comparison(
         "[foo$=\"bar\"]",
         AttrSelectorOperator::Suffix,
         "bar",
         ParsedCaseSensitivity::CaseSensitive,
         0,
     ),
-    (
+    Comparison(
         ":not([foo$=\"bar\"])",
         AttrSelectorOperator::Suffix,
         "bar",
@@ -224,47 +207,63 @@ const COMPARISONS: [Comparison; 9] = [
     ),
 ];
 
-/// Whether a text makes the test of a comparison.
-fn makes_comparison(alloc: Global, wanted: &Comparison) -> Result<bool, Fail> {
-    let (text, operator, value, case, times) = wanted;
+/// The test of a comparison of `foo`.
+fn compared(
+    alloc: Global,
+    operator: AttrSelectorOperator,
+    value: &str,
+    case: ParsedCaseSensitivity,
+) -> Result<Test, AllocError> {
     let comparison = AttributeComparisonExpr::new(
         String::from_str(alloc, "foo")?,
         String::from_str(alloc, value)?,
-        *case,
-        *operator,
+        case,
+        operator,
     );
     let expr = OnAttributesExpr::AttributeComparisonExpr(comparison);
-    let test = negated(alloc, Test::Attribute(expr), *times)?;
-    makes_test(alloc, text, test)
+    Ok(Test::Attribute(expr))
+}
+
+/// The text makes the test of its comparison.
+impl Row for Comparison<'_> {
+    fn holds(&self, alloc: Global) -> Result<bool, Fail> {
+        let Comparison(text, operator, value, case, times) = self;
+        let test = compared(alloc, *operator, value, *case)?;
+        makes_test(alloc, text, negated(alloc, test, *times)?)
+    }
 }
 
 #[test]
 fn of_comparisons(rt: HostRuntime) -> Result<(), Fail> {
-    for comparison in &COMPARISONS {
-        let (text, _, _, _, _) = comparison;
-        assert!(rt; makes_comparison(rt.alloc(), comparison)?, "{text}");
-    }
-    Ok(())
+    expect_rows(&rt, rt.alloc(), &COMPARISONS)
 }
 
 /// Texts under ids, and how many nodes they make.
-const SHARED: [(&[(&str, u32)], usize); 10] = [
-    (&[("#foo", 0), ("#foo", 1)], 1),
-    (&[("DIV", 0), ("div", 1)], 2),
-    (&[(".a.b", 0), (".b.a", 1)], 2),
-    (&[("p", 0), ("p, p", 0)], 1),
-    (&[(":is(a)", 0), (":where(a)", 1), ("a", 2)], 2),
-    (&[(":not(a, b)", 0), (":not(b, a)", 1)], 2),
-    (&[(":not(:not(div))", 0), ("div", 1)], 2),
-    (&[("div.foo#bar:not([baz])", 0)], 1),
-    (
+struct Shared<'t>(&'t [(&'t str, u32)], usize);
+
+impl Row for Shared<'_> {
+    fn holds(&self, alloc: Global) -> Result<bool, Fail> {
+        Ok(node_count(alloc, self.0)? == self.1)
+    }
+}
+
+static SHARED: [Shared<'static>; 10] = [
+    Shared(&[("#foo", 0), ("#foo", 1)], 1),
+    Shared(&[("DIV", 0), ("div", 1)], 2),
+    Shared(&[(".a.b", 0), (".b.a", 1)], 2),
+    Shared(&[("p", 0), ("p, p", 0)], 1),
+    Shared(&[(":is(a)", 0), (":where(a)", 1), ("a", 2)], 2),
+    Shared(&[(":not(a, b)", 0), (":not(b, a)", 1)], 2),
+    Shared(&[(":not(:not(div))", 0), ("div", 1)], 2),
+    Shared(&[("div.foo#bar:not([baz])", 0)], 1),
+    Shared(
         &[
             ("#foo > div, #foo > span", 0),
             ("#foo > .c1, #foo > .c2", 1),
         ],
         5,
     ),
-    (
+    Shared(
         &[
             (".c1 > .c2 .c3 #foo", 0),
             (".c1 > .c2 #bar", 1),
@@ -279,9 +278,5 @@ const SHARED: [(&[(&str, u32)], usize); 10] = [
 
 #[test]
 fn share_equal_beginnings(rt: HostRuntime) -> Result<(), Fail> {
-    for (place, (texts, count)) in SHARED.iter().enumerate() {
-        let nodes = selectors(rt.alloc(), texts)?.cumulative_node_count();
-        assert!(rt; nodes == *count, "row {place}");
-    }
-    Ok(())
+    expect_rows(&rt, rt.alloc(), &SHARED)
 }
