@@ -16,28 +16,47 @@ use test_kit::{WrittenAttributes, written_attributes};
 /// What an attribute is compared with: its name, the operator, the value, and whether the comparison holds.
 type Comparison<'t> = (&'t str, AttrSelectorOperator, &'t str, bool);
 
+/// What has to hold of a row of a table.
+pub(crate) trait Row {
+    fn holds(&self, rt: &impl Abort, alloc: Global) -> Result<bool, Fail>;
+}
+
+/// Expects that something holds.
+pub(crate) fn expect(rt: &impl Abort, holds: Result<bool, AllocError>) -> Result<(), Fail> {
+    assert!(rt; holds?);
+    Ok(())
+}
+
+/// Expects each row to hold.
+pub(crate) fn expect_rows<R: Row>(rt: &impl Abort, alloc: Global, rows: &[R]) -> Result<(), Fail> {
+    for (place, row) in rows.iter().enumerate() {
+        assert!(rt; row.holds(rt, alloc)?, "row {place}");
+    }
+    Ok(())
+}
+
 /// Attributes, their element's namespace, and how case counts in the comparisons of them.
-type Row<'t> = (
+struct CompareRow<'t>(
     WrittenAttributes<'t>,
     Namespace,
     ParsedCaseSensitivity,
     &'t [Comparison<'t>],
 );
 
-const COMPARED: [Row<'static>; 12] = [
-    (
+static COMPARED: [CompareRow<'static>; 12] = [
+    CompareRow(
         TWICE,
         Html,
         CaseSensitive,
         &[("a", Equal, "a", true), ("a", Equal, "b", false)],
     ),
-    (
+    CompareRow(
         &[("disabled", None)],
         Html,
         CaseSensitive,
         &[("disabled", Equal, "", true)],
     ),
-    (
+    CompareRow(
         &[("class", Some(" a  b"))],
         Html,
         CaseSensitive,
@@ -46,25 +65,25 @@ const COMPARED: [Row<'static>; 12] = [
             ("class", Includes, " ", false),
         ],
     ),
-    (HYPHENS, Html, CaseSensitive, &HYPHENATED),
-    (PARTS, Html, CaseSensitive, &PARTS_OF_VALUES),
-    (
+    CompareRow(HYPHENS, Html, CaseSensitive, &HYPHENATED),
+    CompareRow(PARTS, Html, CaseSensitive, &PARTS_OF_VALUES),
+    CompareRow(
         PARTS,
         Html,
         AsciiCaseInsensitive,
         &[("b", Substring, "aba", true)],
     ),
-    (&[("a", Some("x"))], Html, CaseSensitive, &EMPTY_OPERANDS),
-    (TYPE, Html, IN_HTML, &[("type", Equal, "TEXT", true)]),
-    (TYPE, Svg, IN_HTML, &[("type", Equal, "TEXT", false)]),
-    (TYPE, MathML, IN_HTML, &[("type", Equal, "TEXT", false)]),
-    (
+    CompareRow(&[("a", Some("x"))], Html, CaseSensitive, &EMPTY_OPERANDS),
+    CompareRow(TYPE, Html, IN_HTML, &[("type", Equal, "TEXT", true)]),
+    CompareRow(TYPE, Svg, IN_HTML, &[("type", Equal, "TEXT", false)]),
+    CompareRow(TYPE, MathML, IN_HTML, &[("type", Equal, "TEXT", false)]),
+    CompareRow(
         MANY_WORDS,
         Html,
         AsciiCaseInsensitive,
         &[("class", Includes, "MM", true)],
     ),
-    (
+    CompareRow(
         MANY_WORDS,
         Html,
         CaseSensitive,
@@ -187,20 +206,16 @@ pub(crate) fn matcher(attributes: &Attributes, ns: Namespace) -> AttributeMatche
     AttributeMatcher::new(tag.input, tag.attr_buffer, ns)
 }
 
-/// Whether each comparison of a row holds where it is said to.
-fn holds_in_row(alloc: Global, row: &Row<'_>) -> Result<bool, AllocError> {
-    let (written, ns, case_sensitivity, comparisons) = row;
-    let tag = written_attributes(alloc, written)?;
-    let tag = matcher(&tag, *ns);
-    all_hold_as_said(alloc, &tag, *case_sensitivity, comparisons)
+impl Row for CompareRow<'_> {
+    fn holds(&self, _rt: &impl Abort, alloc: Global) -> Result<bool, Fail> {
+        let tag = written_attributes(alloc, self.0)?;
+        Ok(all_hold_as_said(alloc, &matcher(&tag, self.1), self.2, self.3)?)
+    }
 }
 
 #[test]
 fn are_compared(rt: HostRuntime) -> Result<(), Fail> {
-    for (place, row) in COMPARED.iter().enumerate() {
-        assert!(rt; holds_in_row(rt.alloc(), row)?, "row {place}");
-    }
-    Ok(())
+    expect_rows(&rt, rt.alloc(), &COMPARED)
 }
 
 /// What is looked for.
@@ -214,12 +229,14 @@ enum Sought {
 use Sought::{Id, Name, Word};
 
 /// Attributes, and what is looked for in them: whether it is there.
-const LOOKED_FOR: [(WrittenAttributes<'static>, &[(Sought, &str, bool)]); 4] = [
-    (
+struct LookedFor<'t>(WrittenAttributes<'t>, &'t [(Sought, &'t str, bool)]);
+
+static LOOKED_FOR: [LookedFor<'static>; 4] = [
+    LookedFor(
         TWICE,
         &[(Id, "A", true), (Id, "a", false), (Id, "b", false)],
     ),
-    (
+    LookedFor(
         &[("disabled", None), ("FOO", Some("bar"))],
         &[
             (Name, "disabled", true),
@@ -230,7 +247,7 @@ const LOOKED_FOR: [(WrittenAttributes<'static>, &[(Sought, &str, bool)]); 4] = [
             (Word, "", false),
         ],
     ),
-    (
+    LookedFor(
         &[("class", Some(" a  b"))],
         &[
             (Word, "a", true),
@@ -240,7 +257,7 @@ const LOOKED_FOR: [(WrittenAttributes<'static>, &[(Sought, &str, bool)]); 4] = [
             (Word, "a  b", false),
         ],
     ),
-    (
+    LookedFor(
         MANY_WORDS,
         &[
             (Word, "aa", true),
@@ -273,11 +290,15 @@ fn expect_sought(
     }
 }
 
+impl Row for LookedFor<'_> {
+    fn holds(&self, rt: &impl Abort, alloc: Global) -> Result<bool, Fail> {
+        let tag = written_attributes(alloc, self.0)?;
+        expect_sought(rt, &matcher(&tag, Html), self.1);
+        Ok(true)
+    }
+}
+
 #[test]
 fn are_looked_for(rt: HostRuntime) -> Result<(), Fail> {
-    for (written, rows) in &LOOKED_FOR {
-        let tag = written_attributes(rt.alloc(), written)?;
-        expect_sought(&rt, &matcher(&tag, Html), rows);
-    }
-    Ok(())
+    expect_rows(&rt, rt.alloc(), &LOOKED_FOR)
 }

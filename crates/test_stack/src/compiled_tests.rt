@@ -1,6 +1,6 @@
 //! Compiled tests, of selectors and by hand.
 
-use crate::attributes::matcher;
+use crate::attributes::{Row, expect, expect_rows, matcher};
 use crate::instructions::instruction;
 use NameValue::{False, Open, True};
 use lol_base::{LocalName, Namespace};
@@ -16,25 +16,30 @@ use lol_program::{
 use std::alloc::{AllocError, Global};
 use std::process::Abort;
 use std::test::Fail;
-use test_kit::{TagWord, written_attributes};
+use test_kit::{TagWord, WrittenAttributes, written_attributes};
 
-/// Tests of attributes: the name, the operator and the value (none where the attribute only has to be there), and whether `foo=bar` passes.
-const TESTS: [(&str, Option<(AttrSelectorOperator, &str)>, bool); 15] = [
-    ("FOO", Some((AttrSelectorOperator::Equal, "bar")), true),
-    ("FOO", None, false),
-    ("foo", None, true),
-    ("foo", Some((AttrSelectorOperator::Includes, "bar")), true),
-    ("foo", Some((AttrSelectorOperator::Includes, "")), false),
-    ("foo", Some((AttrSelectorOperator::Prefix, "ba")), true),
-    ("foo", Some((AttrSelectorOperator::Prefix, "")), false),
-    ("foo", Some((AttrSelectorOperator::Suffix, "ar")), true),
-    ("foo", Some((AttrSelectorOperator::Suffix, "")), false),
-    ("foo", Some((AttrSelectorOperator::Substring, "a")), true),
-    ("foo", Some((AttrSelectorOperator::Substring, "")), false),
-    ("foo", Some((AttrSelectorOperator::Equal, "bar")), true),
-    ("foo", Some((AttrSelectorOperator::Equal, "")), false),
-    ("foo", Some((AttrSelectorOperator::DashMatch, "bar")), true),
-    ("foo", Some((AttrSelectorOperator::DashMatch, "ba")), false),
+/// What an attribute is compared with; none where it only has to be there.
+type Compared<'t> = Option<(AttrSelectorOperator, &'t str)>;
+
+/// A test of attributes: the name, the operator and the value, and whether `foo=bar` passes.
+struct TestRow<'t>(&'t str, Compared<'t>, bool);
+
+static TESTS: [TestRow<'static>; 15] = [
+    TestRow("FOO", Some((AttrSelectorOperator::Equal, "bar")), true),
+    TestRow("FOO", None, false),
+    TestRow("foo", None, true),
+    TestRow("foo", Some((AttrSelectorOperator::Includes, "bar")), true),
+    TestRow("foo", Some((AttrSelectorOperator::Includes, "")), false),
+    TestRow("foo", Some((AttrSelectorOperator::Prefix, "ba")), true),
+    TestRow("foo", Some((AttrSelectorOperator::Prefix, "")), false),
+    TestRow("foo", Some((AttrSelectorOperator::Suffix, "ar")), true),
+    TestRow("foo", Some((AttrSelectorOperator::Suffix, "")), false),
+    TestRow("foo", Some((AttrSelectorOperator::Substring, "a")), true),
+    TestRow("foo", Some((AttrSelectorOperator::Substring, "")), false),
+    TestRow("foo", Some((AttrSelectorOperator::Equal, "bar")), true),
+    TestRow("foo", Some((AttrSelectorOperator::Equal, "")), false),
+    TestRow("foo", Some((AttrSelectorOperator::DashMatch, "bar")), true),
+    TestRow("foo", Some((AttrSelectorOperator::DashMatch, "ba")), false),
 ];
 
 fn comparison(
@@ -56,28 +61,48 @@ fn existence(alloc: Global, name: &str) -> Result<Test, AllocError> {
     Ok(Test::Attribute(OnAttributesExpr::AttributeExists(name)))
 }
 
-fn test_of(
-    alloc: Global,
-    name: &str,
-    compared: Option<(AttrSelectorOperator, &str)>,
-) -> Result<Test, AllocError> {
+fn test_of(alloc: Global, name: &str, compared: Compared<'_>) -> Result<Test, AllocError> {
     match compared {
         Some((operator, value)) => comparison(alloc, name, operator, value),
         None => existence(alloc, name),
     }
 }
 
-/// Whether attributes pass a compiled test of attributes.
-fn is_passed(compiled: &CompiledTest, attributes: &AttributeMatcher<'_>) -> bool {
+/// Whether attributes, if there are any, pass a compiled test of attributes.
+fn is_passed(compiled: &CompiledTest, attributes: Option<&AttributeMatcher<'_>>) -> bool {
     let counter = ChildCounter::new_and_inc();
     let state = SelectorState {
         cumulative: &counter,
         typed: None,
     };
-    match compiled {
-        CompiledTest::Attribute(expr) => expr.eval(&state, attributes),
+    match (compiled, attributes) {
+        (CompiledTest::Attribute(expr), Some(attributes)) => expr.eval(&state, attributes),
         _ => false,
     }
+}
+
+/// What comes of a test once it is compiled: the flag of tests by type, which was as said before; whether attributes pass the test; and
+/// whether it is that no element passes one predicate.
+#[derive(Clone, Copy)]
+struct Outcome {
+    flag: bool,
+    passed: bool,
+    none_of_one: bool,
+}
+
+fn outcome_of(
+    alloc: Global,
+    test: Test,
+    before: bool,
+    attributes: Option<&AttributeMatcher<'_>>,
+) -> Result<Outcome, AllocError> {
+    let mut flag = before;
+    let compiled = test.compile(alloc, &mut flag)?;
+    Ok(Outcome {
+        flag,
+        passed: is_passed(&compiled, attributes),
+        none_of_one: is_none_of_one(&compiled),
+    })
 }
 
 /// Whether attributes pass a test, once it is compiled; it isn't one by type.
@@ -86,41 +111,32 @@ fn passes(
     test: Test,
     attributes: &AttributeMatcher<'_>,
 ) -> Result<bool, AllocError> {
-    let mut enable_nth_of_type = false;
-    let compiled = test.compile(alloc, &mut enable_nth_of_type)?;
-    Ok(!enable_nth_of_type && is_passed(&compiled, attributes))
+    let outcome = outcome_of(alloc, test, false, Some(attributes))?;
+    Ok(outcome.passed && !outcome.flag)
 }
 
 /// Whether attributes pass the test of a name and what is compared.
 fn is_passed_by(
     alloc: Global,
     name: &str,
-    compared: Option<(AttrSelectorOperator, &str)>,
+    compared: Compared<'_>,
     attributes: &AttributeMatcher<'_>,
 ) -> Result<bool, AllocError> {
     let test = test_of(alloc, name, compared)?;
     passes(alloc, test, attributes)
 }
 
-/// Expects attributes to pass each of `TESTS` or not, as it says.
-fn expect_answers(
-    rt: &impl Abort,
-    alloc: Global,
-    attributes: &AttributeMatcher<'_>,
-) -> Result<(), AllocError> {
-    for (name, compared, answer) in &TESTS {
-        let passed = is_passed_by(alloc, name, *compared, attributes)?;
-        assert!(rt; passed == *answer, "{name}");
+impl Row for TestRow<'_> {
+    fn holds(&self, _rt: &impl Abort, alloc: Global) -> Result<bool, Fail> {
+        let attributes = written_attributes(alloc, &[("foo", Some("bar"))])?;
+        let matcher = matcher(&attributes, Namespace::Html);
+        Ok(is_passed_by(alloc, self.0, self.1, &matcher)? == self.2)
     }
-    Ok(())
 }
 
 #[test]
 fn of_attributes(rt: HostRuntime) -> Result<(), Fail> {
-    let attributes = written_attributes(rt.alloc(), &[("foo", Some("bar"))])?;
-    let attributes = matcher(&attributes, Namespace::Html);
-    expect_answers(&rt, rt.alloc(), &attributes)?;
-    Ok(())
+    expect_rows(&rt, rt.alloc(), &TESTS)
 }
 
 /// The test that no element passes this one.
@@ -129,85 +145,101 @@ fn none_of(alloc: Global, test: Test) -> Result<Test, AllocError> {
     Ok(Test::NoneOf(vec![in alloc; Predicate { tests }]?))
 }
 
-/// The flag that a test of the second child, of its type or of all, sets; where `negated`, that no element passes it.
-fn sets_flag(alloc: Global, of_type: bool, negated: bool) -> Result<bool, AllocError> {
+/// The flag after a test, where it was as said before.
+fn flag_after(alloc: Global, test: Test, before: bool) -> Result<bool, AllocError> {
+    Ok(outcome_of(alloc, test, before, None)?.flag)
+}
+
+/// A test of the second child, of its type or of all.
+fn of_second_child(of_type: bool) -> Test {
     let index = NthChild::new(2, 1);
-    let test = Test::Name(if of_type {
+    Test::Name(if of_type {
         OnTagNameExpr::NthOfType(index)
     } else {
         OnTagNameExpr::NthChild(index)
-    });
+    })
+}
+
+/// The flag that a test of the second child sets; where `negated`, that no element passes it.
+fn sets_flag(alloc: Global, of_type: bool, negated: bool) -> Result<bool, AllocError> {
+    let test = of_second_child(of_type);
     let test = if negated { none_of(alloc, test)? } else { test };
-    let mut enable_nth_of_type = false;
-    test.compile(alloc, &mut enable_nth_of_type)?;
-    Ok(enable_nth_of_type)
+    flag_after(alloc, test, false)
 }
 
 /// Whether the flag stays set after a test of any name.
 fn keeps_flag(alloc: Global) -> Result<bool, AllocError> {
-    let mut enable_nth_of_type = true;
-    Test::Name(OnTagNameExpr::ExplicitAny).compile(alloc, &mut enable_nth_of_type)?;
-    Ok(enable_nth_of_type)
+    flag_after(alloc, Test::Name(OnTagNameExpr::ExplicitAny), true)
 }
 
-/// How many predicates a test that no element passes them compiles to, for one.
-fn compiled_predicates(alloc: Global) -> Result<usize, AllocError> {
-    let test = none_of(alloc, Test::Name(OnTagNameExpr::ExplicitAny))?;
-    match test.compile(alloc, &mut false)? {
-        CompiledTest::NoneOf(predicates) => Ok(predicates.len()),
-        _ => Ok(0),
+/// Whether a test that no element passes is compiled to one that none passes of one predicate.
+fn is_none_of_one(compiled: &CompiledTest) -> bool {
+    match compiled {
+        CompiledTest::NoneOf(predicates) => predicates.len() == 1,
+        _ => false,
     }
 }
 
+fn compiles_to_one(alloc: Global) -> Result<bool, AllocError> {
+    let test = none_of(alloc, Test::Name(OnTagNameExpr::ExplicitAny))?;
+    Ok(outcome_of(alloc, test, false, None)?.none_of_one)
+}
+
 /// Whether a test is of its type, whether it is negated, and whether the flag is set.
-const FLAGS: [(bool, bool, bool); 4] = [
-    (false, false, false),
-    (false, true, false),
-    (true, false, true),
-    (true, true, true),
+struct FlagRow(bool, bool, bool);
+
+impl Row for FlagRow {
+    fn holds(&self, _rt: &impl Abort, alloc: Global) -> Result<bool, Fail> {
+        Ok(sets_flag(alloc, self.0, self.1)? == self.2)
+    }
+}
+
+static FLAGS: [FlagRow; 4] = [
+    FlagRow(false, false, false),
+    FlagRow(false, true, false),
+    FlagRow(true, false, true),
+    FlagRow(true, true, true),
 ];
 
 #[test]
 fn flag_of_tests_by_type(rt: HostRuntime) -> Result<(), Fail> {
-    let alloc = rt.alloc();
-    for (of_type, negated, flag) in &FLAGS {
-        assert!(rt; sets_flag(alloc, *of_type, *negated)? == *flag);
-    }
-    assert!(rt; keeps_flag(alloc)?);
-    assert!(rt; compiled_predicates(alloc)? == 1);
-    Ok(())
+    expect(&rt, keeps_flag(rt.alloc()))?;
+    expect(&rt, compiles_to_one(rt.alloc()))?;
+    expect_rows(&rt, rt.alloc(), &FLAGS)
 }
 
-/// Selectors, the tag of an element that is the first child, its value by names, and whether it passes.
-const ROWS: [(&str, &str, NameValue, bool); 28] = [
-    (":not(div.foo)", "div", NameValue::Open, true),
-    (":not(div.foo)", "div@class=foo", NameValue::Open, false),
-    (":not(div.foo)", "p@class=foo", NameValue::True, true),
-    (":not(:not(a, b))", "a", NameValue::True, true),
-    (":not(:not(a, b))", "b", NameValue::True, true),
-    (":not(:not(a, b))", "c", NameValue::False, false),
-    (":not(.a, p)", "p", NameValue::False, false),
-    (":not(.a, p)", "div@class=b", NameValue::Open, true),
-    (":not(.a, p)", "div@class=a", NameValue::Open, false),
-    ("div:not([a*=\"\"])", "div", NameValue::Open, true),
-    ("div:not([a*=\"\"])", "p", NameValue::False, false),
-    (":not(*)", "a", NameValue::False, false),
-    (":not(|a)", "a", NameValue::True, true),
-    (":is(a.x, p)", "p", NameValue::True, true),
-    (":is(a.x, p)", "a@class=x", NameValue::Open, true),
-    (":is(a.x, p)", "a@class=y", NameValue::Open, false),
-    (":is(a.x, p)", "div@class=x", NameValue::False, false),
-    (":where(a.x, p)", "p", NameValue::True, true),
-    (":where(a.x, p)", "a@class=x", NameValue::Open, true),
-    (":not(:is(a, b))", "a", NameValue::False, false),
-    (":not(:is(a, b))", "c", NameValue::True, true),
-    (":is(h1, h2)", "h1", NameValue::True, true),
-    (":is(h1, h2)", "p", NameValue::False, false),
-    ("p:nth-child(2)", "p", NameValue::False, false),
-    ("p:first-child", "P", NameValue::True, true),
-    ("p:first-of-type.x", "p@class=x", NameValue::Open, true),
-    ("p:nth-of-type(2n).x", "p@class=x", NameValue::False, false),
-    ("my-element", "MY-Element", NameValue::True, true),
+/// A selector, the tag of an element that is the first child, its value by names, and whether it passes.
+struct ValueRow<'t>(&'t str, &'t str, NameValue, bool);
+
+static ROWS: [ValueRow<'static>; 28] = [
+    ValueRow(":not(div.foo)", "div", NameValue::Open, true),
+    ValueRow(":not(div.foo)", "div@class=foo", NameValue::Open, false),
+    ValueRow(":not(div.foo)", "p@class=foo", NameValue::True, true),
+    ValueRow(":not(:not(a, b))", "a", NameValue::True, true),
+    ValueRow(":not(:not(a, b))", "b", NameValue::True, true),
+    ValueRow(":not(:not(a, b))", "c", NameValue::False, false),
+    ValueRow(":not(.a, p)", "p", NameValue::False, false),
+    ValueRow(":not(.a, p)", "div@class=b", NameValue::Open, true),
+    ValueRow(":not(.a, p)", "div@class=a", NameValue::Open, false),
+    ValueRow("div:not([a*=\"\"])", "div", NameValue::Open, true),
+    ValueRow("div:not([a*=\"\"])", "p", NameValue::False, false),
+    ValueRow(":not(*)", "a", NameValue::False, false),
+    ValueRow(":not(|a)", "a", NameValue::True, true),
+    ValueRow(":is(a.x, p)", "p", NameValue::True, true),
+    ValueRow(":is(a.x, p)", "a@class=x", NameValue::Open, true),
+    ValueRow(":is(a.x, p)", "a@class=y", NameValue::Open, false),
+    ValueRow(":is(a.x, p)", "div@class=x", NameValue::False, false),
+    ValueRow(":where(a.x, p)", "p", NameValue::True, true),
+    ValueRow(":where(a.x, p)", "a@class=x", NameValue::Open, true),
+    ValueRow(":not(:is(a, b))", "a", NameValue::False, false),
+    ValueRow(":not(:is(a, b))", "c", NameValue::True, true),
+    ValueRow(":is(h1, h2)", "h1", NameValue::True, true),
+    ValueRow(":is(h1, h2)", "p", NameValue::False, false),
+    ValueRow("p:nth-child(2)", "p", NameValue::False, false),
+    ValueRow("p:first-child", "P", NameValue::True, true),
+    ValueRow("p:first-of-type.x", "p@class=x", NameValue::Open, true),
+    ValueRow("p:nth-of-type(2n).x", "p@class=x", NameValue::False, false),
+    ValueRow("my-element", "MY-Element", NameValue::True, true),
 ];
 
 /// The value by names of the first child of its name and of all, and whether it passes.
@@ -225,31 +257,38 @@ fn values(
     (predicate.by_names(&state, name), passes)
 }
 
-fn check_values(
+/// The values of an instruction at a tag.
+fn values_at(
+    alloc: Global,
+    instruction: &Instruction,
+    tag: &TagWord<'_>,
+) -> Result<(NameValue, bool), Fail> {
+    let attributes = tag.attributes(alloc)?;
+    let matcher = matcher(&attributes, Namespace::Html);
+    let name = LocalName::new(tag.name.as_bytes());
+    Ok(values(&instruction.predicate, &name, &matcher))
+}
+
+/// The values of a selector of one compound at a tag.
+fn values_of(
     rt: &impl Abort,
     alloc: Global,
     text: &str,
     tag: &str,
-    wanted: (NameValue, bool),
-) -> Result<(), Fail> {
+) -> Result<(NameValue, bool), Fail> {
     let instruction = instruction(rt, alloc, text)?;
-    let tag = TagWord::of(tag);
-    let attributes = tag.attributes(alloc)?;
-    let matcher = matcher(&attributes, Namespace::Html);
-    let name = LocalName::new(tag.name.as_bytes());
-    assert!(rt;
-        values(&instruction.predicate, &name, &matcher) == wanted,
-        "{text}"
-    );
-    Ok(())
+    values_at(alloc, &instruction, &TagWord::of(tag))
+}
+
+impl Row for ValueRow<'_> {
+    fn holds(&self, rt: &impl Abort, alloc: Global) -> Result<bool, Fail> {
+        Ok(values_of(rt, alloc, self.0, self.1)? == (self.2, self.3))
+    }
 }
 
 #[test]
 fn values_by_names_and_with_attributes(rt: HostRuntime) -> Result<(), Fail> {
-    for (text, tag, value, passes) in &ROWS {
-        check_values(&rt, rt.alloc(), text, tag, (*value, *passes))?;
-    }
-    Ok(())
+    expect_rows(&rt, rt.alloc(), &ROWS)
 }
 
 /// A test of the first child of its type alone.
@@ -320,26 +359,27 @@ fn is_always(alloc: Global) -> Result<bool, AllocError> {
 
 #[test]
 fn tests_by_hand(rt: HostRuntime) -> Result<(), Fail> {
-    assert!(rt; is_by_type(rt.alloc())?);
-    assert!(rt; is_never(rt.alloc())?);
-    assert!(rt; is_always(rt.alloc())?);
-    Ok(())
+    expect(&rt, is_by_type(rt.alloc()))?;
+    expect(&rt, is_never(rt.alloc()))?;
+    expect(&rt, is_always(rt.alloc()))
 }
 
-/// Selectors, an element's attributes, and whether it passes.
-const ATTRIBUTE_ROWS: [(&str, &[(&str, Option<&str>)], bool); 12] = [
-    ("[lang|=\"\"]", &[("lang", Some(""))], true),
-    ("[lang|=\"\"]", &[("lang", Some("-x"))], true),
-    ("[lang|=\"\"]", &[("lang", Some("x"))], false),
-    ("[id=a]", &[("id", Some("a")), ("id", Some("b"))], true),
-    ("[id=b]", &[("id", Some("a")), ("id", Some("b"))], false),
-    ("#b", &[("id", Some("a")), ("id", Some("b"))], false),
-    ("[foo]", &[("FOO", None)], true),
-    ("[foo]", &[("fo", None)], false),
-    (".a.b", &[("Class", Some("b a"))], true),
-    (".a.b", &[("class", Some("b c"))], false),
-    (":not(.a)", &[("class", Some("b c"))], true),
-    (":not(#a, .c)", &[("class", Some("b c"))], false),
+/// A selector, an element's attributes, and whether it passes.
+struct AttributeRow<'t>(&'t str, WrittenAttributes<'t>, bool);
+
+static ATTRIBUTE_ROWS: [AttributeRow<'static>; 12] = [
+    AttributeRow("[lang|=\"\"]", &[("lang", Some(""))], true),
+    AttributeRow("[lang|=\"\"]", &[("lang", Some("-x"))], true),
+    AttributeRow("[lang|=\"\"]", &[("lang", Some("x"))], false),
+    AttributeRow("[id=a]", &[("id", Some("a")), ("id", Some("b"))], true),
+    AttributeRow("[id=b]", &[("id", Some("a")), ("id", Some("b"))], false),
+    AttributeRow("#b", &[("id", Some("a")), ("id", Some("b"))], false),
+    AttributeRow("[foo]", &[("FOO", None)], true),
+    AttributeRow("[foo]", &[("fo", None)], false),
+    AttributeRow(".a.b", &[("Class", Some("b a"))], true),
+    AttributeRow(".a.b", &[("class", Some("b c"))], false),
+    AttributeRow(":not(.a)", &[("class", Some("b c"))], true),
+    AttributeRow(":not(#a, .c)", &[("class", Some("b c"))], false),
 ];
 
 /// Whether a first child `p` passes an instruction's predicate, and whether the instruction gives it a branch.
@@ -356,23 +396,34 @@ fn answers(instruction: &Instruction, attributes: &AttributeMatcher<'_>) -> (boo
     (passes, branch.is_some())
 }
 
-fn answers_to(
+/// The same at an element with these attributes.
+fn answers_at(
+    alloc: Global,
+    instruction: &Instruction,
+    written: WrittenAttributes<'_>,
+) -> Result<(bool, bool), Fail> {
+    let attributes = written_attributes(alloc, written)?;
+    Ok(answers(instruction, &matcher(&attributes, Namespace::Html)))
+}
+
+/// The same of a selector of one compound.
+fn answers_of(
     rt: &impl Abort,
     alloc: Global,
     text: &str,
-    written: &[(&str, Option<&str>)],
+    written: WrittenAttributes<'_>,
 ) -> Result<(bool, bool), Fail> {
     let instruction = instruction(rt, alloc, text)?;
-    let attributes = written_attributes(alloc, written)?;
-    let matcher = matcher(&attributes, Namespace::Html);
-    Ok(answers(&instruction, &matcher))
+    answers_at(alloc, &instruction, written)
+}
+
+impl Row for AttributeRow<'_> {
+    fn holds(&self, rt: &impl Abort, alloc: Global) -> Result<bool, Fail> {
+        Ok(answers_of(rt, alloc, self.0, self.1)? == (self.2, self.2))
+    }
 }
 
 #[test]
 fn tests_of_attributes(rt: HostRuntime) -> Result<(), Fail> {
-    for (text, written, passes) in &ATTRIBUTE_ROWS {
-        let answers = answers_to(&rt, rt.alloc(), text, written)?;
-        assert!(rt; answers == (*passes, *passes), "{text}");
-    }
-    Ok(())
+    expect_rows(&rt, rt.alloc(), &ATTRIBUTE_ROWS)
 }

@@ -8,19 +8,29 @@ use std::alloc::{AllocError, Global};
 use std::process::Abort;
 use std::test::Fail;
 
-#[test]
-fn count_from_none_to_the_greatest(rt: HostRuntime) {
-    assert!(rt; ChildCounter::default().is_nth(NthChild::new(0, 0)));
+/// Expects a counter to count its first children.
+fn expect_first_counts(rt: &impl Abort) {
     let mut counter = ChildCounter::new_and_inc();
     assert!(rt; counter.is_nth(NthChild::new(0, 1)));
     assert!(rt; !counter.is_full());
     counter.inc();
     assert!(rt; counter.is_nth(NthChild::new(2, 0)));
+}
+
+/// Expects a counter to count up to the greatest number.
+fn expect_greatest_count(rt: &impl Abort) {
     let mut counter = ChildCounter::at(2_147_483_646);
     assert!(rt; !counter.is_full());
     counter.inc();
     assert!(rt; counter.is_full());
     assert!(rt; counter.is_nth(NthChild::new(0, i32::MAX)));
+}
+
+#[test]
+fn count_from_none_to_the_greatest(rt: HostRuntime) {
+    assert!(rt; ChildCounter::default().is_nth(NthChild::new(0, 0)));
+    expect_first_counts(&rt);
+    expect_greatest_count(&rt);
 }
 
 /// A step on counters by type, with what has to come of it.
@@ -54,13 +64,18 @@ fn is_taken(counters: &mut TypedChildCounterMap, step: Step) -> Result<bool, All
     }
 }
 
+/// Takes the steps.
+fn take(rt: &impl Abort, counters: &mut TypedChildCounterMap, steps: &[Step]) -> Result<(), Fail> {
+    for (place, step) in steps.iter().enumerate() {
+        assert!(rt; is_taken(counters, *step)?, "step {place}");
+    }
+    Ok(())
+}
+
 /// Takes the steps on counters of their own.
 fn check(rt: &impl Abort, alloc: Global, steps: &[Step]) -> Result<(), Fail> {
     let mut counters = TypedChildCounterMap::new(alloc);
-    for (place, step) in steps.iter().enumerate() {
-        assert!(rt; is_taken(&mut counters, *step)?, "step {place}");
-    }
-    Ok(())
+    take(rt, &mut counters, steps)
 }
 
 /// The codes of the names `a`, `b` and `c`.
@@ -70,7 +85,7 @@ const B: u64 = 7;
 
 const C: u64 = 8;
 
-const LEVELS: &[Step] = &[
+static LEVELS: [Step; 14] = [
     Add(b"a", 0),
     Add(b"b", 0),
     Add(b"a", 1),
@@ -89,11 +104,11 @@ const LEVELS: &[Step] = &[
 
 #[test]
 fn by_type_remember_their_levels(rt: HostRuntime) -> Result<(), Fail> {
-    check(&rt, rt.alloc(), LEVELS)
+    check(&rt, rt.alloc(), &LEVELS)
 }
 
 /// Two spellings of a name without a code.
-const WITHOUT_HASH: &[Step] = &[
+static WITHOUT_HASH: [Step; 5] = [
     Add(b"x-y", 3),
     Add(b"X-y", 3),
     Counted(b"x-Y", 3, 2),
@@ -103,14 +118,18 @@ const WITHOUT_HASH: &[Step] = &[
 
 #[test]
 fn by_type_know_names_that_are_no_hashes(rt: HostRuntime) -> Result<(), Fail> {
-    check(&rt, rt.alloc(), WITHOUT_HASH)
+    check(&rt, rt.alloc(), &WITHOUT_HASH)
 }
 
 /// Whether exactly these counters are kept: the level of each, and its name's code.
 fn has_kept(counters: &TypedChildCounterMap, keys: &[(usize, u64)]) -> bool {
-    let kept = counters.kept().iter();
-    kept.map(|(level, name)| (*level, name.code().unwrap_or(0)))
-        .eq(keys.iter().copied())
+    let kept = counters.kept();
+    for ((level, name), (wanted, code)) in kept.iter().zip(keys) {
+        if level != wanted || name.code() != Some(*code) {
+            return false;
+        }
+    }
+    kept.len() == keys.len()
 }
 
 /// Whether the counter of a name at a level has counted so many.

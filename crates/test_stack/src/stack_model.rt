@@ -115,30 +115,45 @@ impl Plain {
     fn active(&self, alloc: Global) -> Result<Vec<(AddressRange, usize)>, AllocError> {
         let mut active: Vec<(AddressRange, usize)> = Vec::new(alloc);
         for (place, bits) in self.ranges.iter().enumerate() {
-            for range in ranges_of(alloc, *bits)? {
-                if !active.iter().any(|(other, _)| *other == range) {
-                    active.push((range, place))?;
-                }
-            }
+            add_ranges(&mut active, &ranges_of(alloc, *bits)?, place)?;
         }
         Ok(active)
     }
 }
 
+/// Adds those of an element's ranges that aren't active yet.
+fn add_ranges(
+    active: &mut Vec<(AddressRange, usize)>,
+    ranges: &[AddressRange],
+    place: usize,
+) -> Result<(), AllocError> {
+    for range in ranges {
+        if !has_range(active, range) {
+            active.push((range.start..range.end, place))?;
+        }
+    }
+    Ok(())
+}
+
+fn has_range(active: &[(AddressRange, usize)], range: &AddressRange) -> bool {
+    for (other, _) in active {
+        if other == range {
+            return true;
+        }
+    }
+    false
+}
+
+/// Bits, and the start and the end of the range that each stands for.
+static RANGES: [(usize, usize, usize); 4] = [(1, 0, 1), (2, 1, 4), (4, 4, 6), (8, 6, 9)];
+
 /// The ranges that some of four bits stand for.
 fn ranges_of(alloc: Global, bits: usize) -> Result<Vec<AddressRange>, AllocError> {
     let mut ranges = Vec::new(alloc);
-    if bits % 2 == 1 {
-        ranges.push(0..1)?;
-    }
-    if bits / 2 % 2 == 1 {
-        ranges.push(1..4)?;
-    }
-    if bits / 4 % 2 == 1 {
-        ranges.push(4..6)?;
-    }
-    if bits / 8 % 2 == 1 {
-        ranges.push(6..9)?;
+    for (bit, start, end) in &RANGES {
+        if bits & *bit != 0 {
+            ranges.push(*start..*end)?;
+        }
     }
     Ok(ranges)
 }
@@ -182,6 +197,24 @@ fn are_counted(stack: &Stack<Numbered>, plain: &Plain, name: &LocalName, kind: u
     typed && has_counted(state.cumulative, children.all())
 }
 
+/// Whether an element has the places that the lists say.
+fn are_placed(
+    alloc: Global,
+    stack: &Stack<Numbered>,
+    plain: &Plain,
+    name: &LocalName,
+    kind: usize,
+) -> Result<bool, AllocError> {
+    let places = plain.places(alloc, kind)?;
+    Ok(stack.open_places(name) == places.as_slice())
+}
+
+/// Whether the ranges are active that the lists say.
+fn are_active(alloc: Global, stack: &Stack<Numbered>, plain: &Plain) -> Result<bool, AllocError> {
+    let active = plain.active(alloc)?;
+    Ok(stack.active_hereditary_jumps() == active.as_slice())
+}
+
 /// Whether the stack is as the lists say, as far as this name sees it.
 fn agrees(
     alloc: Global,
@@ -190,13 +223,11 @@ fn agrees(
     name: &LocalName,
     kind: usize,
 ) -> Result<bool, AllocError> {
-    let places = plain.places(alloc, kind)?;
-    let active = plain.active(alloc)?;
     Ok(
         are_counted(stack, plain, name, kind)
             && stack.items().len() == plain.kinds.len()
-            && stack.open_places(name) == places.as_slice()
-            && stack.active_hereditary_jumps() == active.as_slice(),
+            && are_placed(alloc, stack, plain, name, kind)?
+            && are_active(alloc, stack, plain)?,
     )
 }
 
@@ -247,7 +278,31 @@ fn opens(
     open(alloc, stack, name, number, ranges.as_slice(), limiter).is_ok()
 }
 
-/// One call, the same of the lists, and the comparison.
+/// Opens an element of both, if there is room.
+fn open_both(
+    rt: &impl Abort,
+    alloc: Global,
+    stack: &mut Stack<Numbered>,
+    plain: &mut Plain,
+    limiter: &mut SharedMemoryLimiter,
+    random: usize,
+)
+    ensures { item_bytes_in stack.new ≡ item_bytes_in stack.old }
+{
+    let bits = random / 6 % 16;
+    let opened = opens(rt, alloc, stack, limiter, name_of(random), random, bits);
+    assert!(rt; opened == (plain.kinds.len() < MOST));
+    if opened {
+        plain.open(random % 3, random, bits).expect(rt, "memory");
+    }
+}
+
+/// The name that a number draws, of the kind that it leaves by 3.
+fn name_of(random: usize) -> &'static [u8] {
+    spelled(random % 3, random / 3 % 2 == 0)
+}
+
+/// One call, and the same of the lists.
 fn step(
     rt: &impl Abort,
     alloc: Global,
@@ -258,22 +313,28 @@ fn step(
 )
     ensures { item_bytes_in stack.new ≡ item_bytes_in stack.old }
 {
-    let kind = random % 3;
-    let name = spelled(kind, random / 3 % 2 == 0);
-    let bits = random / 6 % 16;
+    let (kind, name) = (random % 3, name_of(random));
     match random / 96 % 4 {
         0 => close_both(rt, alloc, stack, plain, kind, name),
         1 => count_child(rt, stack, plain, kind, name),
         _ => {
             count_child(rt, stack, plain, kind, name);
-            let opened = opens(rt, alloc, stack, limiter, name, random, bits);
-            assert!(rt; opened == (plain.kinds.len() < MOST));
-            if opened {
-                plain.open(kind, random, bits).expect(rt, "memory");
-            }
+            open_both(rt, alloc, stack, plain, limiter, random);
         }
     }
-    let agree = agrees(alloc, stack, plain, &LocalName::new(name), kind);
+}
+
+/// Expects the stack to be as the lists say, as far as the name sees it that a number draws.
+fn expect_agreement(
+    rt: &impl Abort,
+    alloc: Global,
+    stack: &Stack<Numbered>,
+    plain: &Plain,
+    limiter: &SharedMemoryLimiter,
+    random: usize,
+) {
+    let name = LocalName::new(name_of(random));
+    let agree = agrees(alloc, stack, plain, &name, random % 3);
     assert!(rt; agree.expect(rt, "memory"));
     assert!(rt; is_charged_and_numbered(stack, limiter, &plain.numbers));
 }
@@ -289,6 +350,7 @@ fn agrees_with_plain_lists(rt: HostRuntime) {
         random = next_random(random);
         let word = (random >> 33) as usize;
         step(&rt, alloc, &mut stack, &mut plain, &mut limiter, word);
+        expect_agreement(&rt, alloc, &stack, &plain, &limiter, word);
     }
 
     release(&rt, stack, ITEM_BYTES, &mut limiter);

@@ -3,6 +3,7 @@
 ghost use Rattle.std.specs.Prelude.{◌≡◌};
 ghost use Rattle.lol_stack.specs.Stacks.{item_bytes_in};
 
+use crate::attributes::{Row, expect_rows};
 use lol_base::{LocalName, Namespace};
 use lol_css::NthChild;
 use lol_instructions::{AddressRange, ChildCounter};
@@ -23,10 +24,19 @@ pub(crate) fn item(
     let item: StackItem<Numbered> = StackItemOf::new(alloc, LocalName::new(name));
     let mut item = item.into_owned(alloc)?;
     item.element_data.value = number;
+    add_ranges(alloc, &mut item, ranges)?;
+    Ok(item)
+}
+
+fn add_ranges(
+    alloc: Global,
+    item: &mut StackItem<'static, Numbered>,
+    ranges: &[AddressRange],
+) -> Result<(), AllocError> {
     for range in ranges {
         item.hereditary_jumps.push(alloc, range.start..range.end)?;
     }
-    Ok(item)
+    Ok(())
 }
 
 /// Opens an element.
@@ -151,9 +161,17 @@ enum Step<'t> {
     Places(&'t str, &'t [usize]),
     /// How many elements are open.
     Items(usize),
+    /// `keeps_many`.
+    Many,
+    /// `counts_to_the_greatest`, with this name.
+    Greatest(&'t str),
+    /// `lends_data`.
+    Lent,
+    /// `passes_limit`, which leaves the stack and the limiter untouched.
+    Refused,
 }
 
-use Step::{Active, Close, Items, Open, Places};
+use Step::{Active, Close, Greatest, Items, Lent, Many, Open, Places, Refused};
 
 /// Takes a step, and says whether what has to come of it came.
 fn take_step(
@@ -174,19 +192,32 @@ fn take_step(
         Active(ranges) => stack.active_hereditary_jumps() == ranges,
         Places(name, places) => has_places(stack, name.as_bytes(), places),
         Items(count) => stack.items().len() == count,
+        Many => keeps_many(rt, alloc, stack, limiter),
+        Greatest(name) => counts_to_the_greatest(rt, alloc, stack, limiter, name),
+        Lent => lends_data(rt, alloc, stack, limiter),
+        Refused => {
+            passes_limit(alloc, stack, limiter)
+                && is_untouched(stack)
+                && limiter.current_usage() == 0
+        }
     }
 }
 
-/// Takes the steps on a stack of its own.
-fn check(rt: &impl Abort, alloc: Global, steps: &[Step<'_>]) {
-    let mut limiter = SharedMemoryLimiter::new(2048);
-    let mut stack = Stack::new(alloc, 64, false);
+/// Takes the steps on a stack of its own, of at most so many bytes, which may count by type.
+fn check(rt: &impl Abort, alloc: Global, max: usize, by_type: bool, steps: &[Step<'_>]) {
+    let mut limiter = SharedMemoryLimiter::new(max);
+    let mut stack = Stack::new(alloc, 64, by_type);
     for step in steps {
         let came = take_step(rt, alloc, &mut stack, &mut limiter, *step);
         assert!(rt; came);
     }
     release(rt, stack, 64, &mut limiter);
     assert!(rt; limiter.current_usage() == 0);
+}
+
+/// Takes the steps on a stack of its own, with ample room, which doesn't count by type.
+fn check_plain(rt: &impl Abort, alloc: Global, steps: &[Step<'_>]) {
+    check(rt, alloc, 2048, false, steps);
 }
 
 #[test]
@@ -199,26 +230,24 @@ fn keep_the_charge_of_a_discarded_stack(rt: HostRuntime) {
     assert!(rt; limiter.current_usage() == 512);
 }
 
+static RANGES_KEPT: [Step<'static>; 12] = [
+    Open("a", &[]),
+    Active(&[]),
+    Open("b", &[0..1]),
+    Active(&[(0..1, 1)]),
+    Open("c", &[0..1, 2..4]),
+    Active(&[(0..1, 1), (2..4, 2)]),
+    Open("d", &[]),
+    Active(&[(0..1, 1), (2..4, 2)]),
+    Close("c", &[2, 3]),
+    Active(&[(0..1, 1)]),
+    Close("a", &[0, 1]),
+    Active(&[]),
+];
+
 #[test]
 fn keep_the_active_ranges(rt: HostRuntime) {
-    check(
-        &rt,
-        rt.alloc(),
-        &[
-            Open("a", &[]),
-            Active(&[]),
-            Open("b", &[0..1]),
-            Active(&[(0..1, 1)]),
-            Open("c", &[0..1, 2..4]),
-            Active(&[(0..1, 1), (2..4, 2)]),
-            Open("d", &[]),
-            Active(&[(0..1, 1), (2..4, 2)]),
-            Close("c", &[2, 3]),
-            Active(&[(0..1, 1)]),
-            Close("a", &[0, 1]),
-            Active(&[]),
-        ],
-    );
+    check_plain(&rt, rt.alloc(), &RANGES_KEPT);
 }
 
 /// The ranges 0 to 1, 1 to 2 and so on, as many as this.
@@ -287,39 +316,47 @@ fn are_many_and_one(active: &[(AddressRange, usize)]) -> bool {
     }
 }
 
+/// Whether 130 ranges are kept while an element with one more is opened and closed.
+fn keeps_many(
+    rt: &impl Abort,
+    alloc: Global,
+    stack: &mut Stack<Numbered>,
+    limiter: &mut SharedMemoryLimiter,
+) -> bool
+    ensures { item_bytes_in stack.new ≡ item_bytes_in stack.old }
+{
+    opens_with_many(rt, alloc, stack, limiter)
+        && opens_with_more(rt, alloc, stack, limiter)
+        && closes(rt, alloc, stack, b"b", &[1])
+        && stack.active_hereditary_jumps().len() == 130
+}
+
 #[test]
 fn keep_many_active_ranges(rt: HostRuntime) {
-    let alloc = rt.alloc();
-    let mut limiter = SharedMemoryLimiter::new(2048);
-    let mut stack = Stack::new(alloc, 64, false);
-    assert!(rt; opens_with_many(&rt, alloc, &mut stack, &mut limiter));
-    assert!(rt; opens_with_more(&rt, alloc, &mut stack, &mut limiter));
-    assert!(rt; closes(&rt, alloc, &mut stack, b"b", &[1]));
-    assert!(rt; stack.active_hereditary_jumps().len() == 130);
-    release(&rt, stack, 64, &mut limiter);
+    check_plain(&rt, rt.alloc(), &[Many]);
 }
+
+static LAST_CLOSED: [Step<'static>; 9] = [
+    Close("div", &[]),
+    Open("a", &[]),
+    Open("b", &[]),
+    Open("A", &[]),
+    Close("c", &[]),
+    Items(3),
+    Close("a", &[2]),
+    Close("a", &[0, 1]),
+    Close("a", &[]),
+];
 
 #[test]
 fn close_the_last_of_a_name(rt: HostRuntime) {
-    check(
-        &rt,
-        rt.alloc(),
-        &[
-            Close("div", &[]),
-            Open("a", &[]),
-            Open("b", &[]),
-            Open("A", &[]),
-            Close("c", &[]),
-            Items(3),
-            Close("a", &[2]),
-            Close("a", &[0, 1]),
-            Close("a", &[]),
-        ],
-    );
+    check_plain(&rt, rt.alloc(), &LAST_CLOSED);
 }
 
-/// End tags, the numbers of the elements that each closes in `html`, `body`, `div`, `div` and `span`, and how many stay.
-const CLOSED: [(&str, &[usize], usize); 5] = [
+/// An end tag, the numbers of the elements that it closes in `html`, `body`, `div`, `div` and `span`, and how many stay.
+type Closing<'t> = (&'t str, &'t [usize], usize);
+
+static CLOSED: [Closing<'static>; 5] = [
     ("span", &[4], 4),
     ("div", &[3, 4], 3),
     ("body", &[1, 2, 3, 4], 1),
@@ -327,45 +364,45 @@ const CLOSED: [(&str, &[usize], usize); 5] = [
     ("table", &[], 5),
 ];
 
-#[test]
-fn close_all_inside(rt: HostRuntime) {
-    for (name, numbers, count) in &CLOSED {
-        check(
-            &rt,
-            rt.alloc(),
-            &[
-                Open("html", &[]),
-                Open("body", &[]),
-                Open("div", &[]),
-                Open("div", &[]),
-                Open("span", &[]),
-                Close(name, numbers),
-                Items(*count),
-            ],
-        );
-    }
+fn check_closing(rt: &impl Abort, alloc: Global, row: &Closing<'_>) {
+    let (name, numbers, count) = row;
+    let steps = [
+        Open("html", &[]),
+        Open("body", &[]),
+        Open("div", &[]),
+        Open("div", &[]),
+        Open("span", &[]),
+        Close(name, numbers),
+        Items(*count),
+    ];
+    check_plain(rt, alloc, &steps);
 }
 
 #[test]
+fn close_all_inside(rt: HostRuntime) {
+    for row in &CLOSED {
+        check_closing(&rt, rt.alloc(), row);
+    }
+}
+
+static PLACES: [Step<'static>; 12] = [
+    Open("html", &[]),
+    Open("div", &[]),
+    Open("p", &[]),
+    Open("div", &[]),
+    Open("p", &[]),
+    Places("DIV", &[1, 3]),
+    Places("a", &[]),
+    Close("p", &[4]),
+    Close("p", &[2, 3]),
+    Close("p", &[]),
+    Close("div", &[1]),
+    Close("html", &[0]),
+];
+
+#[test]
 fn know_the_places_of_a_name(rt: HostRuntime) {
-    check(
-        &rt,
-        rt.alloc(),
-        &[
-            Open("html", &[]),
-            Open("div", &[]),
-            Open("p", &[]),
-            Open("div", &[]),
-            Open("p", &[]),
-            Places("DIV", &[1, 3]),
-            Places("a", &[]),
-            Close("p", &[4]),
-            Close("p", &[2, 3]),
-            Close("p", &[]),
-            Close("div", &[1]),
-            Close("html", &[0]),
-        ],
-    );
+    check_plain(&rt, rt.alloc(), &PLACES);
 }
 
 /// Opens an element that can have one child more.
@@ -399,16 +436,27 @@ fn is_full_of_others(stack: &Stack<Numbered>, name: &LocalName) -> bool {
     has_one && state.cumulative.is_nth(NthChild::new(0, i32::MAX))
 }
 
+/// Opens a nearly full element, and says whether one child of a name is counted, and none of another.
+fn counts_to_the_greatest(
+    rt: &impl Abort,
+    alloc: Global,
+    stack: &mut Stack<Numbered>,
+    limiter: &mut SharedMemoryLimiter,
+    name: &str,
+) -> bool
+    ensures { item_bytes_in stack.new ≡ item_bytes_in stack.old }
+{
+    let name = LocalName::new(name.as_bytes());
+    open_nearly_full(rt, alloc, stack, limiter);
+    counts_one(stack, &name)
+        && stack.items().len() == 1
+        && is_full_of_others(stack, &name)
+        && is_uncounted(stack, b"a")
+}
+
 #[test]
 fn count_children_up_to_the_greatest(rt: HostRuntime) {
-    let mut limiter = SharedMemoryLimiter::new(2048);
-    let mut stack = Stack::new(rt.alloc(), 64, true);
-    let name = LocalName::new(b"p");
-    open_nearly_full(&rt, rt.alloc(), &mut stack, &mut limiter);
-    assert!(rt; counts_one(&mut stack, &name));
-    assert!(rt; stack.items().len() == 1 && is_full_of_others(&stack, &name));
-    assert!(rt; is_uncounted(&stack, b"a"));
-    release(&rt, stack, 64, &mut limiter);
+    check(&rt, rt.alloc(), 2048, true, &[Greatest("p")]);
 }
 
 /// Whether an element with a range passes the limit.
@@ -433,11 +481,7 @@ fn is_untouched(stack: &Stack<Numbered>) -> bool {
 
 #[test]
 fn are_as_before_after_a_refused_push(rt: HostRuntime) {
-    let mut limiter = SharedMemoryLimiter::new(511);
-    let mut stack = Stack::new(rt.alloc(), 64, false);
-    assert!(rt; passes_limit(rt.alloc(), &mut stack, &mut limiter));
-    assert!(rt; is_untouched(&stack) && limiter.current_usage() == 0);
-    release(&rt, stack, 64, &mut limiter);
+    check(&rt, rt.alloc(), 511, false, &[Refused]);
 }
 
 /// Gives the last element another number.
@@ -448,60 +492,63 @@ fn renumber(rt: &impl Abort, stack: &mut Stack<Numbered>, number: usize)
     data.expect(rt, "data of an open element").value = number;
 }
 
-#[test]
-fn lend_the_data_of_the_last_element(rt: HostRuntime) {
-    let alloc = rt.alloc();
-    let mut limiter = SharedMemoryLimiter::new(2048);
-    let mut stack = Stack::new(alloc, 64, false);
-    assert!(rt; stack.current_element_data_mut().is_none());
-    assert!(rt; open(alloc, &mut stack, b"a", 0, &[], &mut limiter).is_ok());
-    assert!(rt; stack.charged_slots() == 8 && limiter.current_usage() == 512);
-    renumber(&rt, &mut stack, 9);
-    assert!(rt; closes(&rt, alloc, &mut stack, b"a", &[9]));
-    release(&rt, stack, 64, &mut limiter);
+/// Whether data is lent as soon as there is an element, and is handed out as it was left.
+fn lends_data(
+    rt: &impl Abort,
+    alloc: Global,
+    stack: &mut Stack<Numbered>,
+    limiter: &mut SharedMemoryLimiter,
+) -> bool
+    ensures { item_bytes_in stack.new ≡ item_bytes_in stack.old }
+{
+    let none = stack.current_element_data_mut().is_none();
+    let opened = open(alloc, stack, b"a", 0, &[], limiter).is_ok();
+    let charged = stack.charged_slots() == 8 && limiter.current_usage() == 512;
+    renumber(rt, stack, 9);
+    none && opened && charged && closes(rt, alloc, stack, b"a", &[9])
 }
 
-/// Names, their namespace and whether ESI is on, with what becomes of their elements.
-const DIRECTIVES: [(&str, Namespace, bool, StackDirective); 7] = [
-    ("div", Namespace::Html, true, StackDirective::Push),
-    ("BR", Namespace::Html, false, StackDirective::PopImmediately),
-    (
+#[test]
+fn lend_the_data_of_the_last_element(rt: HostRuntime) {
+    check_plain(&rt, rt.alloc(), &[Lent]);
+}
+
+/// A name, its namespace and whether ESI is on, with what becomes of its element.
+struct DirectiveRow<'t>(&'t str, Namespace, bool, StackDirective);
+
+static DIRECTIVES: [DirectiveRow<'static>; 7] = [
+    DirectiveRow("div", Namespace::Html, true, StackDirective::Push),
+    DirectiveRow("BR", Namespace::Html, false, StackDirective::PopImmediately),
+    DirectiveRow(
         "br",
         Namespace::Svg,
         false,
         StackDirective::PushIfNotSelfClosing,
     ),
-    (
+    DirectiveRow(
         "circle",
         Namespace::MathML,
         true,
         StackDirective::PushIfNotSelfClosing,
     ),
-    (
+    DirectiveRow(
         "esi:include",
         Namespace::Html,
         true,
         StackDirective::PopImmediately,
     ),
-    ("esi:include", Namespace::Html, false, StackDirective::Push),
-    ("ESI:INCLUDE", Namespace::Html, true, StackDirective::Push),
+    DirectiveRow("esi:include", Namespace::Html, false, StackDirective::Push),
+    DirectiveRow("ESI:INCLUDE", Namespace::Html, true, StackDirective::Push),
 ];
 
-fn directive_of(
-    alloc: Global,
-    name: &str,
-    ns: Namespace,
-    enable_esi_tags: bool,
-) -> Result<StackDirective, AllocError> {
-    let item = item(alloc, name.as_bytes(), 0, &[])?;
-    Ok(Stack::get_stack_directive(&item, ns, enable_esi_tags))
+impl Row for DirectiveRow<'_> {
+    fn holds(&self, _rt: &impl Abort, alloc: Global) -> Result<bool, Fail> {
+        let item = item(alloc, self.0.as_bytes(), 0, &[])?;
+        Ok(Stack::get_stack_directive(&item, self.1, self.2) == self.3)
+    }
 }
 
 #[test]
 fn know_what_becomes_of_an_element(rt: HostRuntime) -> Result<(), Fail> {
-    for (name, ns, esi, directive) in &DIRECTIVES {
-        let becomes = directive_of(rt.alloc(), name, *ns, *esi)?;
-        assert!(rt; becomes == *directive, "{name}");
-    }
-    Ok(())
+    expect_rows(&rt, rt.alloc(), &DIRECTIVES)
 }
