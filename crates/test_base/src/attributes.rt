@@ -1,13 +1,14 @@
 //! Attributes that are built from names and values.
 
+use crate::sets::expect;
 use lol_base::{AttributeOutline, Attributes, AuxStartTagInfo, Range};
-use std::alloc::AllocError;
+use std::alloc::{AllocError, Global};
 use std::test::Fail;
 
 /// A name, and a value where one is written.
 type Written<'t> = (&'t [u8], Option<&'t [u8]>);
 
-const WRITTEN: [Written<'static>; 5] = [
+static WRITTEN: [Written<'static>; 5] = [
     (b"rel", Some(b"nofollow me")),
     (b"hidden", None),
     (b"REL", Some(b"")),
@@ -34,12 +35,17 @@ fn is_written(input: &[u8], outline: &AttributeOutline, written: &Written<'_>) -
 /// Whether these are the attributes, in order.
 fn are(info: &AuxStartTagInfo<'_>, written: &[Written<'_>]) -> bool {
     let input = info.input.as_slice();
+    for (outline, written) in info.attr_buffer.iter().zip(written) {
+        if !is_written(input, outline, written) {
+            return false;
+        }
+    }
     info.attr_buffer.len() == written.len()
-        && info
-            .attr_buffer
-            .iter()
-            .zip(written)
-            .all(|(outline, written)| is_written(input, outline, written))
+}
+
+/// Whether these are the attributes of a tag, in order.
+fn has(attributes: &Attributes, self_closing: bool, written: &[Written<'_>]) -> bool {
+    are(&attributes.aux_info(self_closing), written)
 }
 
 fn add(attributes: &mut Attributes, written: &[Written<'_>]) -> Result<(), AllocError> {
@@ -49,17 +55,32 @@ fn add(attributes: &mut Attributes, written: &[Written<'_>]) -> Result<(), Alloc
     Ok(())
 }
 
+/// Whether there are no attributes, and these ones once they are pushed.
+fn takes(
+    attributes: &mut Attributes,
+    self_closing: bool,
+    written: &[Written<'_>],
+) -> Result<bool, AllocError> {
+    let empty = has(attributes, false, &[]);
+    add(attributes, written)?;
+    Ok(empty && has(attributes, self_closing, written))
+}
+
+/// The same of some attributes, and of others once these are cleared.
+fn takes_both(
+    alloc: Global,
+    written: &[Written<'_>],
+    others: &[Written<'_>],
+) -> Result<bool, AllocError> {
+    let mut attributes = Attributes::new(alloc);
+    let taken = takes(&mut attributes, false, written)?;
+    attributes.clear();
+    Ok(taken && takes(&mut attributes, true, others)?)
+}
+
 #[test]
 fn are_those_that_were_pushed(rt: HostRuntime) -> Result<(), Fail> {
-    let mut attributes = Attributes::new(rt.alloc());
-    assert!(rt; are(&attributes.aux_info(false), &[]));
-    add(&mut attributes, &WRITTEN)?;
-    assert!(rt; are(&attributes.aux_info(false), &WRITTEN));
-    attributes.clear();
-    assert!(rt; are(&attributes.aux_info(false), &[]));
-    add(&mut attributes, &WRITTEN[..2])?;
-    assert!(rt; are(&attributes.aux_info(true), &WRITTEN[..2]));
-    Ok(())
+    expect(&rt, takes_both(rt.alloc(), &WRITTEN, &WRITTEN[..2]))
 }
 
 #[test]
@@ -70,18 +91,26 @@ fn say_whether_their_tag_closes_itself(rt: HostRuntime) {
     assert!(rt; attributes.aux_info(true).ranges_inside());
 }
 
+static LONG: [u8; 300] = [b'x'; 300];
+
 /// 2,000 attributes, with values of 0 to 299 bytes.
-#[test]
-fn may_be_many(rt: HostRuntime) -> Result<(), Fail> {
-    let long = [b'x'; 300];
-    let mut written: Vec<Written<'_>> = Vec::new(rt.alloc());
+fn many(alloc: Global) -> Result<Vec<Written<'static>>, AllocError> {
+    let mut written = Vec::new(alloc);
     for number in 0..2_000 {
-        let name: &[u8] = if number % 7 == 0 { b"id" } else { b"class" };
-        let value = (number % 5 != 0).then_some(&long[..number % 300]);
+        let name: &'static [u8] = if number % 7 == 0 { b"id" } else { b"class" };
+        let value = (number % 5 != 0).then_some(&LONG[..number % 300]);
         written.push((name, value))?;
     }
-    let mut attributes = Attributes::new(rt.alloc());
-    add(&mut attributes, &written)?;
-    assert!(rt; are(&attributes.aux_info(false), &written));
-    Ok(())
+    Ok(written)
+}
+
+/// Whether attributes are these many once they are pushed.
+fn takes_many(alloc: Global) -> Result<bool, AllocError> {
+    let mut attributes = Attributes::new(alloc);
+    takes(&mut attributes, false, &many(alloc)?)
+}
+
+#[test]
+fn may_be_many(rt: HostRuntime) -> Result<(), Fail> {
+    expect(&rt, takes_many(rt.alloc()))
 }

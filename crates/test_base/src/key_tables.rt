@@ -1,21 +1,17 @@
 //! Tables of addresses by hashes.
 
+use crate::sets::{expect, expect_row};
 use lol_key_table::KeyTable;
 use std::alloc::{AllocError, Global};
 use std::process::Abort;
 use std::test::Fail;
 
 /// Hashes by address, those that are looked for, a range, and the addresses in it that have one of them.
-type Row = (
-    &'static [u32],
-    &'static [u32],
-    (usize, usize),
-    &'static [usize],
-);
+type Row<'t> = (&'t [u32], &'t [u32], (usize, usize), &'t [usize]);
 
 const HASHES: &[u32] = &[5, 3, 5, 5, 4_294_967_295, 3, 5, 0];
 
-const ROWS: [Row; 11] = [
+static ROWS: [Row<'static>; 11] = [
     (HASHES, &[5], (0, 8), &[0, 2, 3, 6]),
     (HASHES, &[5, 3], (0, 8), &[0, 1, 2, 3, 5, 6]),
     // A hash that is looked for twice, and one that no address has.
@@ -55,15 +51,24 @@ fn find(
     Ok(())
 }
 
-#[test]
-fn find_the_addresses_of_hashes(rt: HostRuntime) -> Result<(), Fail> {
-    let mut found = Vec::new(rt.alloc());
-    for (hashes, wanted, (start, end), addresses) in ROWS {
-        let table = table_of(rt.alloc(), hashes)?;
-        find(&table, wanted, (start, end), &mut found)?;
-        assert!(rt; found.as_slice() == addresses);
+fn is_row(alloc: Global, row: &Row<'_>, found: &mut Vec<usize>) -> Result<bool, AllocError> {
+    let (hashes, wanted, range, addresses) = row;
+    let table = table_of(alloc, hashes)?;
+    find(&table, wanted, *range, found)?;
+    Ok(found.as_slice() == *addresses)
+}
+
+fn expect_rows(rt: &impl Abort, alloc: Global, rows: &[Row<'_>]) -> Result<(), Fail> {
+    let mut found = Vec::new(alloc);
+    for (place, row) in rows.iter().enumerate() {
+        expect_row(rt, place, is_row(alloc, row, &mut found))?;
     }
     Ok(())
+}
+
+#[test]
+fn find_the_addresses_of_hashes(rt: HostRuntime) -> Result<(), Fail> {
+    expect_rows(&rt, rt.alloc(), &ROWS)
 }
 
 /// The addresses in a range that have one of some hashes, by a look at each.
@@ -92,18 +97,36 @@ fn some_hashes(alloc: Global) -> Result<Vec<u32>, AllocError> {
     Ok(hashes)
 }
 
-#[test]
-fn find_what_a_look_at_each_finds(rt: HostRuntime) -> Result<(), Fail> {
-    let alloc = rt.alloc();
-    let hashes = some_hashes(alloc)?;
-    let table = table_of(alloc, &hashes)?;
+/// Whether a table of hashes finds in a range what a look at each finds.
+fn finds_alike(
+    alloc: Global,
+    hashes: &[u32],
+    table: &KeyTable,
+    (start, end): (u32, u32),
+    found: &mut Vec<usize>,
+) -> Result<bool, AllocError> {
+    let wanted = [start % 11, end % 11, 4];
+    let (start, end) = (start as usize, end as usize);
+    find(table, &wanted, (start, end), found)?;
+    Ok(*found == addresses(alloc, hashes, &wanted, start, end)?)
+}
+
+fn expect_alike(rt: &impl Abort, alloc: Global, hashes: &[u32]) -> Result<(), Fail> {
+    let table = table_of(alloc, hashes)?;
     let mut found = Vec::new(alloc);
-    for start in 0..=62 {
-        for end in 0..=62 {
-            let wanted = [start as u32 % 11, end as u32 % 11, 4];
-            find(&table, &wanted, (start, end), &mut found)?;
-            assert!(rt; found == addresses(alloc, &hashes, &wanted, start, end)?);
+    for start in 0..63 {
+        for end in 0..63 {
+            expect(
+                rt,
+                finds_alike(alloc, hashes, &table, (start, end), &mut found),
+            )?;
         }
     }
     Ok(())
+}
+
+#[test]
+fn find_what_a_look_at_each_finds(rt: HostRuntime) -> Result<(), Fail> {
+    let hashes = some_hashes(rt.alloc())?;
+    expect_alike(&rt, rt.alloc(), &hashes)
 }

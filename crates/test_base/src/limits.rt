@@ -2,8 +2,9 @@
 
 ghost use Rattle.std.specs.Prelude.{◌≡◌, ◌<◌};
 
+use crate::sets::expect;
 use lol_memory::{LimitedVec, MemoryLimitExceededError, PushError, SharedMemoryLimiter};
-use std::alloc::Global;
+use std::alloc::{AllocError, Global};
 use std::process::Abort;
 use std::test::Fail;
 
@@ -22,28 +23,45 @@ fn counts_up_to_the_maximum(rt: HostRuntime) {
     assert!(rt; counts(&mut limiter, 15, false, 4));
 }
 
+/// Whether a first push passes a limit, and leaves a list and the limiter as they were.
+fn refuses_first_push(alloc: Global, item_bytes: usize, max: usize) -> bool
+    requires { 0 < item_bytes }
+{
+    let mut limiter = SharedMemoryLimiter::new(max);
+    let mut list = LimitedVec::new(alloc, item_bytes);
+    let refused = matches!(list.push(7u8, &mut limiter), Err(PushError::Limit(_)));
+    let untouched = (list.len(), list.slots(), limiter.current_usage()) == (0, 0, 0);
+    list.release(&mut limiter);
+    refused && untouched
+}
+
 #[test]
 fn refuses_a_first_push_above_the_maximum(rt: HostRuntime) {
     for (item_bytes, max) in [(1, 0), (2, 1), (257, 256), (usize::MAX, usize::MAX)] {
-        let mut limiter = SharedMemoryLimiter::new(max);
-        let mut list = LimitedVec::new(rt.alloc(), item_bytes);
         assert!(rt;
-            matches!(list.push(7u8, &mut limiter), Err(PushError::Limit(_))),
+            refuses_first_push(rt.alloc(), item_bytes, max),
             "{item_bytes} bytes, {max} at most"
         );
-        assert!(rt; (list.len(), list.slots(), limiter.current_usage()) == (0, 0, 0));
-        list.release(&mut limiter);
     }
+}
+
+/// How many slots a list takes for its first element.
+fn first_slots(rt: &impl Abort, alloc: Global, item_bytes: usize) -> usize
+    requires { 0 < item_bytes }
+{
+    let mut limiter = SharedMemoryLimiter::new(1000);
+    let mut list = LimitedVec::new(alloc, item_bytes);
+    fill(rt, &mut list, 1, &mut limiter);
+    let slots = list.slots();
+    release(rt, list, item_bytes, &mut limiter);
+    slots
 }
 
 #[test]
 fn takes_the_fewest_slots_first(rt: HostRuntime) {
     for (item_bytes, slots) in [(1, 128), (7, 18), (64, 8)] {
-        let mut limiter = SharedMemoryLimiter::new(1000);
-        let mut list = LimitedVec::new(rt.alloc(), item_bytes);
-        fill(&rt, &mut list, 1, &mut limiter);
-        assert_eq!(rt; list.slots(), slots, "{item_bytes} bytes");
-        release(&rt, list, item_bytes, &mut limiter);
+        let taken = first_slots(&rt, rt.alloc(), item_bytes);
+        assert!(rt; taken == slots, "{item_bytes} bytes: {taken}");
     }
 }
 
@@ -178,13 +196,23 @@ fn gives_what_it_takes_out_in_order(rt: HostRuntime) {
     release(&rt, list, 1, &mut limiter);
 }
 
+/// Whether it is said that the memory limit has been exceeded.
+fn is_limit_text(text: Result<String, AllocError>) -> Result<bool, AllocError> {
+    Ok(text?.as_str() == "The memory limit has been exceeded.")
+}
+
+fn text_of_limit(alloc: Global) -> Result<String, AllocError> {
+    MemoryLimitExceededError.to_string(alloc)
+}
+
+fn text_of_refused_push(alloc: Global) -> Result<String, AllocError> {
+    PushError::Limit(MemoryLimitExceededError).to_string(alloc)
+}
+
 #[test]
 fn refusals_have_their_text(rt: HostRuntime) -> Result<(), Fail> {
-    let error = MemoryLimitExceededError.to_string(rt.alloc())?;
-    assert!(rt; error.as_str() == "The memory limit has been exceeded.");
-    let error = PushError::Limit(MemoryLimitExceededError).to_string(rt.alloc())?;
-    assert!(rt; error.as_str() == "The memory limit has been exceeded.");
-    Ok(())
+    expect(&rt, is_limit_text(text_of_limit(rt.alloc())))?;
+    expect(&rt, is_limit_text(text_of_refused_push(rt.alloc())))
 }
 
 /// Pushes the numbers from 0 on.

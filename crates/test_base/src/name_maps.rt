@@ -1,5 +1,6 @@
 //! Values by the names of elements.
 
+use crate::sets::expect_row;
 use lol_base::LocalName;
 use lol_name_map::NameMap;
 use std::alloc::{AllocError, Global};
@@ -53,13 +54,22 @@ fn put_all(
 
 /// Whether each name of this first letter has the value that `put_all` gave it.
 fn have_all(map: &NameMap<usize>, letter: u8, first_value: usize) -> bool {
-    ENDS.iter().enumerate().all(|(at, end)| get(map, &[letter, *end])
-        == Some(first_value.saturating_add(at)))
+    for (at, end) in ENDS.iter().enumerate() {
+        if get(map, &[letter, *end]) != Some(first_value.saturating_add(at)) {
+            return false;
+        }
+    }
+    true
 }
 
 /// Whether no name of this first letter has a value.
 fn have_none(map: &NameMap<usize>, letter: u8) -> bool {
-    ENDS.iter().all(|end| get(map, &[letter, *end]).is_none())
+    for end in ENDS {
+        if get(map, &[letter, *end]).is_some() {
+            return false;
+        }
+    }
+    true
 }
 
 /// Takes the names of this first letter out, from the last one, and answers whether each had the value that `put_all` gave it.
@@ -93,16 +103,26 @@ fn is_answered(alloc: Global, map: &mut NameMap<usize>, step: Step) -> Result<bo
     }
 }
 
-fn check(rt: &impl Abort, alloc: Global, steps: &[Step]) -> Result<(), Fail> {
-    let mut map = NameMap::new(alloc);
+fn take_steps(
+    rt: &impl Abort,
+    alloc: Global,
+    map: &mut NameMap<usize>,
+    steps: &[Step],
+) -> Result<(), Fail> {
     for (at, step) in steps.iter().enumerate() {
-        assert!(rt; is_answered(alloc, &mut map, *step)?, "step {at}");
+        expect_row(rt, at, is_answered(alloc, map, *step))?;
     }
     Ok(())
 }
 
+/// Takes the steps on a map of their own.
+fn check(rt: &impl Abort, alloc: Global, steps: &[Step]) -> Result<(), Fail> {
+    let mut map = NameMap::new(alloc);
+    take_steps(rt, alloc, &mut map, steps)
+}
+
 /// Names that share a slot.
-const IN_A_SLOT: &[Step] = &[
+static IN_A_SLOT: [Step; 16] = [
     Get(b"aa", None),
     Put(b"aa", 1),
     Put(b"ca", 2),
@@ -123,11 +143,11 @@ const IN_A_SLOT: &[Step] = &[
 
 #[test]
 fn keep_names_that_share_a_slot(rt: HostRuntime) -> Result<(), Fail> {
-    check(&rt, rt.alloc(), IN_A_SLOT)
+    check(&rt, rt.alloc(), &IN_A_SLOT)
 }
 
 /// `h7`, `x-y` and `abcdefghijklm` have no code, and the slot of `bz` and `dz`.
-const WITHOUT_CODE: &[Step] = &[
+static WITHOUT_CODE: [Step; 19] = [
     Put(b"h7", 0),
     Put(b"x-y", 1),
     Put(b"abcdefghijklm", 2),
@@ -151,7 +171,7 @@ const WITHOUT_CODE: &[Step] = &[
 
 #[test]
 fn keep_names_without_a_code(rt: HostRuntime) -> Result<(), Fail> {
-    check(&rt, rt.alloc(), WITHOUT_CODE)
+    check(&rt, rt.alloc(), &WITHOUT_CODE)
 }
 
 /// A step on all the names of a first letter.
@@ -164,9 +184,11 @@ enum Stride {
     HaveNone(u8),
     /// Takes them, with this first value.
     TakeAll(u8, usize),
+    /// A step on one name.
+    One(Step),
 }
 
-use Stride::{HaveAll, HaveNone, PutAll, TakeAll};
+use Stride::{HaveAll, HaveNone, One, PutAll, TakeAll};
 
 /// Takes a stride, and says whether it answered what it has to.
 fn is_well(alloc: Global, map: &mut NameMap<usize>, stride: Stride) -> Result<bool, AllocError> {
@@ -178,6 +200,7 @@ fn is_well(alloc: Global, map: &mut NameMap<usize>, stride: Stride) -> Result<bo
         HaveAll(letter, first_value) => Ok(have_all(map, letter, first_value)),
         HaveNone(letter) => Ok(have_none(map, letter)),
         TakeAll(letter, first_value) => Ok(take_all(map, letter, first_value)),
+        One(step) => is_answered(alloc, map, step),
     }
 }
 
@@ -186,22 +209,20 @@ fn take_strides(
     alloc: Global,
     map: &mut NameMap<usize>,
     strides: &[Stride],
-) -> Result<(), AllocError> {
+) -> Result<(), Fail> {
     for (at, stride) in strides.iter().enumerate() {
-        assert!(rt; is_well(alloc, map, *stride)?, "step {at}");
+        expect_row(rt, at, is_well(alloc, map, *stride))?;
     }
     Ok(())
 }
 
-/// More names than slots.
-const ALL: &[Stride] = &[
+/// More names than slots, and one without a code.
+static ALL: [Stride; 26] = [
     PutAll(b'a', 0),
     PutAll(b'b', 100),
     PutAll(b'c', 200),
     PutAll(b'd', 300),
-];
-
-const AFTER_ALL: &[Stride] = &[
+    One(Put(b"x-y", 400)),
     HaveAll(b'a', 0),
     HaveAll(b'b', 100),
     HaveAll(b'C', 200),
@@ -222,15 +243,11 @@ const AFTER_ALL: &[Stride] = &[
     HaveNone(b'c'),
     TakeAll(b'a', 500),
     HaveNone(b'a'),
+    One(Take(b"x-y", Some(400))),
 ];
 
 #[test]
 fn keep_more_names_than_slots(rt: HostRuntime) -> Result<(), Fail> {
-    let alloc = rt.alloc();
-    let mut map = NameMap::new(alloc);
-    take_strides(&rt, alloc, &mut map, ALL)?;
-    put(alloc, &mut map, b"x-y", 400)?;
-    take_strides(&rt, alloc, &mut map, AFTER_ALL)?;
-    assert!(rt; take(&mut map, b"x-y") == Some(400));
-    Ok(())
+    let mut map = NameMap::new(rt.alloc());
+    take_strides(&rt, rt.alloc(), &mut map, &ALL)
 }

@@ -1,11 +1,13 @@
 //! Names of elements.
 
+use crate::sets::expect;
 use lol_base::{LocalName, Tag};
 use std::alloc::{AllocError, Global};
+use std::process::Abort;
 use std::test::Fail;
 
 /// Names, and their codes.
-const CODES: [(&[u8], Option<u64>); 8] = [
+static CODES: [(&[u8], Option<u64>); 8] = [
     (b"a", Some(6)),
     (b"br", Some(247)),
     (b"div", Some(9691)),
@@ -16,74 +18,67 @@ const CODES: [(&[u8], Option<u64>); 8] = [
     (b"abcdefghijklm", None),
 ];
 
+/// Whether a name has this code; if it has none, it has a spelling.
+fn has_code(bytes: &[u8], code: Option<u64>) -> bool {
+    let name = LocalName::new(bytes);
+    name.code() == code && name.spelling().is_none() == code.is_some()
+}
+
+fn expect_codes(rt: &impl Abort, rows: &[(&[u8], Option<u64>)]) {
+    for (bytes, code) in rows {
+        assert!(rt; has_code(bytes, *code), "{bytes:?}");
+    }
+}
+
 #[test]
 fn have_the_codes_of_their_bytes(rt: HostRuntime) {
-    for (bytes, code) in &CODES {
-        let name = LocalName::new(bytes);
-        assert!(rt; name.code() == *code, "{bytes:?}");
-        assert!(rt; name.spelling().is_none() == code.is_some());
-    }
+    expect_codes(&rt, &CODES);
+}
+
+fn is_basefont(name: &[u8]) -> bool {
+    LocalName::new(name).is_tag(Tag::Basefont)
 }
 
 #[test]
 fn are_those_of_tags(rt: HostRuntime) {
-    assert!(rt; LocalName::new(b"BaseFont").is_tag(Tag::Basefont));
-    assert!(rt; !LocalName::new(b"base").is_tag(Tag::Basefont));
-    assert!(rt; !LocalName::new(b"basefontfonts").is_tag(Tag::Basefont));
+    assert!(rt; is_basefont(b"BaseFont"));
+    assert!(rt; !is_basefont(b"base"));
+    assert!(rt; !is_basefont(b"basefontfonts"));
 }
 
 /// The void elements of the HTML Standard (13.1.2), and the obsolete ones that its parser closes at once (13.2.6.4.7).
-const VOID: [&[u8]; 17] = [
-    b"area",
-    b"base",
-    b"basefont",
-    b"bgsound",
-    b"br",
-    b"col",
-    b"embed",
-    b"hr",
-    b"IMG",
-    b"input",
-    b"keygen",
-    b"link",
-    b"meta",
-    b"param",
-    b"Source",
-    b"track",
-    b"wbr",
-];
+const VOID: &str =
+    "area base basefont bgsound br col embed hr IMG input keygen link meta param Source track wbr";
 
 /// Names of elements with content; the standard's parser renames `image`.
-const NOT_VOID: [&[u8]; 8] = [
-    b"a",
-    b"div",
-    b"li",
-    b"span",
-    b"image",
-    b"command",
-    b"b",
-    b"custom-element",
-];
+const NOT_VOID: &str = "a div li span image command b custom-element";
+
+fn tag_of(name: &str) -> Option<Tag> {
+    LocalName::new(name.as_bytes()).tag()
+}
 
 /// Whether a name is that of a tag without content.
-fn is_void(name: &[u8]) -> bool {
-    LocalName::new(name).tag().is_some_and(|tag| tag.is_void())
+fn is_void(name: &str) -> bool {
+    match tag_of(name) {
+        Some(tag) => tag.is_void(),
+        None => false,
+    }
+}
+
+/// Expects names to be those of tags without content, or not to be.
+fn expect_void(rt: &impl Abort, names: &str, void: bool) {
+    for name in names.split_whitespace() {
+        assert!(rt; is_void(name) == void, "{name}");
+    }
 }
 
 #[test]
 fn are_void_as_the_standard_says(rt: HostRuntime) {
-    for name in VOID {
-        assert!(rt; is_void(name), "{name:?}");
-    }
-    for name in NOT_VOID {
-        assert!(rt; !is_void(name), "{name:?}");
-    }
-    assert!(rt; LocalName::new(b"SPAN").tag() == Some(Tag::Span));
-    assert!(rt; LocalName::new(b"spans").tag().is_none());
+    expect_void(&rt, VOID, true);
+    expect_void(&rt, NOT_VOID, false);
+    assert!(rt; tag_of("SPAN") == Some(Tag::Span));
+    assert!(rt; tag_of("spans").is_none());
 }
-
-/// Names without a code, each with another spelling of it.
-const COPIED: [(&[u8], &[u8]); 1] = [(b"Abcdefghijklm", b"aBCDEFGHIJKLM")];
 
 /// Whether a copy of a name is equal to it, and spelled as it is.
 fn is_copied(alloc: Global, spelled: &[u8]) -> Result<bool, AllocError> {
@@ -98,13 +93,14 @@ fn is_owned(alloc: Global, spelled: &[u8], other: &[u8]) -> Result<bool, AllocEr
     Ok(are_equal(&owned, &LocalName::new(other)) && is_spelled(&owned, spelled))
 }
 
+/// A name without a code, and another spelling of it.
 #[test]
 fn are_copied_as_they_are_spelled(rt: HostRuntime) -> Result<(), Fail> {
-    for (spelled, other) in COPIED {
-        assert!(rt; is_copied(rt.alloc(), spelled)?);
-        assert!(rt; is_owned(rt.alloc(), spelled, other)?);
-    }
-    Ok(())
+    expect(&rt, is_copied(rt.alloc(), b"Abcdefghijklm"))?;
+    expect(
+        &rt,
+        is_owned(rt.alloc(), b"Abcdefghijklm", b"aBCDEFGHIJKLM"),
+    )
 }
 
 fn are_equal<'i>(owned: &LocalName<'static>, name: &LocalName<'i>) -> bool {

@@ -6,43 +6,86 @@ use std::collections::BTreeSet;
 use std::process::Abort;
 use std::test::Fail;
 
-/// Expects a set to be that of 33, 70 and 100, inserted in this order.
-fn expect_ascending(rt: &impl Abort, set: &DenseHashSet, alloc: Global) -> Result<(), AllocError> {
-    let ascending = set_of(alloc, &[33, 70, 100])?;
-    assert!(rt; *set == ascending && set.iter().eq([33, 70, 100]));
+/// Expects that something holds.
+pub(crate) fn expect(rt: &impl Abort, holds: Result<bool, AllocError>) -> Result<(), Fail> {
+    assert!(rt; holds?);
     Ok(())
 }
 
+/// Expects it of a row of a table.
+pub(crate) fn expect_row(
+    rt: &impl Abort,
+    row: usize,
+    holds: Result<bool, AllocError>,
+) -> Result<(), Fail> {
+    assert!(rt; holds?, "row {row}");
+    Ok(())
+}
+
+/// Whether a set has exactly these ids, in this order.
+fn has_ids(set: &DenseHashSet, ids: &[u32]) -> bool {
+    set.iter().eq(ids.iter().copied())
+}
+
+/// Whether a set is that of some ids, and has them in this order.
+fn is_set_of(alloc: Global, set: &DenseHashSet, ids: &[u32]) -> Result<bool, AllocError> {
+    Ok(*set == set_of(alloc, ids)? && has_ids(set, ids))
+}
+
+/// Whether the ids in one order and in another one make the same set, which has them in the latter.
+fn make_one_set(alloc: Global, ids: &[u32], ascending: &[u32]) -> Result<bool, AllocError> {
+    let set = set_of(alloc, ids)?;
+    is_set_of(alloc, &set, ascending)
+}
+
+static ORDERS: [[u32; 3]; 6] = [
+    [33, 70, 100],
+    [33, 100, 70],
+    [70, 33, 100],
+    [70, 100, 33],
+    [100, 33, 70],
+    [100, 70, 33],
+];
+
 #[test]
 fn keep_no_trace_of_the_order_of_insertion(rt: HostRuntime) -> Result<(), Fail> {
-    for ids in [
-        [33, 70, 100],
-        [33, 100, 70],
-        [70, 33, 100],
-        [70, 100, 33],
-        [100, 33, 70],
-        [100, 70, 33],
-    ] {
-        expect_ascending(&rt, &set_of(rt.alloc(), &ids)?, rt.alloc())?;
+    for (row, ids) in ORDERS.iter().enumerate() {
+        expect_row(&rt, row, make_one_set(rt.alloc(), ids, &[33, 70, 100]))?;
     }
     Ok(())
 }
 
+/// Whether a set of one id has it.
+fn holds_great(alloc: Global, id: u32, written: u32) -> Result<bool, AllocError> {
+    let set = set_of(alloc, &[id])?;
+    Ok(has_ids(&set, &[written]))
+}
+
 #[test]
 fn hold_great_ids(rt: HostRuntime) -> Result<(), Fail> {
-    let id = 32 * 1_048_575 + 31;
-    let set = set_of(rt.alloc(), &[id])?;
-    let mut ids = set.iter();
-    assert!(rt; ids.next() == Some(33_554_431));
-    assert!(rt; ids.next() == None);
-    Ok(())
+    expect(
+        &rt,
+        holds_great(rt.alloc(), 32 * 1_048_575 + 31, 33_554_431),
+    )
 }
 
 #[test]
 fn are_joined(rt: HostRuntime) -> Result<(), Fail> {
-    let set = union_of(rt.alloc(), &[33, 70], &[1, 70, 100])?;
-    assert!(rt; set == set_of(rt.alloc(), &[1, 33, 70, 100])?);
-    Ok(())
+    expect(
+        &rt,
+        are_joined_to(rt.alloc(), &[33, 70], &[1, 70, 100], &[1, 33, 70, 100]),
+    )
+}
+
+/// Whether the union of two sets is that of these ids.
+fn are_joined_to(
+    alloc: Global,
+    ids: &[u32],
+    others: &[u32],
+    all: &[u32],
+) -> Result<bool, AllocError> {
+    let all = set_of(alloc, all)?;
+    is_union(alloc, &all, ids, others)
 }
 
 fn is_copied(set: &DenseHashSet) -> Result<bool, AllocError> {
@@ -56,12 +99,15 @@ fn leaves_its_copy(set: &mut DenseHashSet, id: u32) -> Result<bool, AllocError> 
     Ok(copy != *set)
 }
 
+/// Whether a set is equal to its copy, and leaves it as it is.
+fn is_well_copied(alloc: Global, ids: &[u32], other: u32) -> Result<bool, AllocError> {
+    let mut set = set_of(alloc, ids)?;
+    Ok(is_copied(&set)? && leaves_its_copy(&mut set, other)?)
+}
+
 #[test]
 fn are_copied(rt: HostRuntime) -> Result<(), Fail> {
-    let mut set = set_of(rt.alloc(), &[1, 33, 70, 100])?;
-    assert!(rt; is_copied(&set)?);
-    assert!(rt; leaves_its_copy(&mut set, 2)?);
-    Ok(())
+    expect(&rt, is_well_copied(rt.alloc(), &[1, 33, 70, 100], 2))
 }
 
 fn set_of(alloc: Global, ids: &[u32]) -> Result<DenseHashSet, AllocError> {
@@ -86,12 +132,17 @@ fn union_of(alloc: Global, ids: &[u32], others: &[u32]) -> Result<DenseHashSet, 
 
 /// Whether the set has room for each id as it is said.
 fn has_rooms(set: &DenseHashSet, rooms: &[(u32, bool)]) -> bool {
-    rooms.iter().all(|(id, room)| set.has_room(*id) == *room)
+    for (id, room) in rooms {
+        if set.has_room(*id) != *room {
+            return false;
+        }
+    }
+    true
 }
 
 /// Ids that are inserted in turn, and what has room then: the set goes from one word to a list, to words with their places, to a list and
 /// back.
-const GROWTH: [(&[u32], &[(u32, bool)]); 7] = [
+static GROWTH: [(&[u32], &[(u32, bool)]); 7] = [
     (&[], &[(0, true), (31, true), (32, false)]),
     (&[33], &[(31, true), (32, true), (63, true), (64, false)]),
     (
@@ -113,9 +164,9 @@ const GROWTH: [(&[u32], &[(u32, bool)]); 7] = [
     (&[3], &[(100_032, false), (u32::MAX, false)]),
 ];
 
-/// Whether the set takes the ids of `GROWTH`, and has room as it says.
-fn grows(set: &mut DenseHashSet) -> Result<bool, AllocError> {
-    for (ids, rooms) in &GROWTH {
+/// Whether the set takes the ids of each row, and has room as it says.
+fn grows(set: &mut DenseHashSet, rows: &[(&[u32], &[(u32, bool)])]) -> Result<bool, AllocError> {
+    for (ids, rooms) in rows {
         insert_all(set, ids)?;
         if !has_rooms(set, rooms) {
             return Ok(false);
@@ -124,19 +175,25 @@ fn grows(set: &mut DenseHashSet) -> Result<bool, AllocError> {
     Ok(true)
 }
 
+static GROWN: [u32; 9] = [3, 33, 70, 100, 128, 160, 192, 1_024, 100_000];
+
+/// Whether a set grows as the rows say, and has these ids then.
+fn grows_to(
+    alloc: Global,
+    rows: &[(&[u32], &[(u32, bool)])],
+    grown: &[u32],
+) -> Result<bool, AllocError> {
+    let mut set = DenseHashSet::new(alloc);
+    Ok(grows(&mut set, rows)? && has_ids(&set, grown))
+}
+
 #[test]
 fn grow_from_form_to_form(rt: HostRuntime) -> Result<(), Fail> {
-    let mut set = DenseHashSet::new(rt.alloc());
-    assert!(rt; grows(&mut set)?);
-    assert!(rt;
-        set.iter()
-            .eq([3, 33, 70, 100, 128, 160, 192, 1_024, 100_000])
-    );
-    Ok(())
+    expect(&rt, grows_to(rt.alloc(), &GROWTH, &GROWN))
 }
 
 /// One id, and what has room in its set: up to 639 the words stand in a list.
-const EDGES: [(u32, &[(u32, bool)]); 7] = [
+static EDGES: [(u32, &[(u32, bool)]); 7] = [
     (31, &[(0, true), (32, false)]),
     (32, &[(0, true), (63, true), (64, false)]),
     (511, &[(32, true), (511, true), (512, false)]),
@@ -157,19 +214,27 @@ const EDGES: [(u32, &[(u32, bool)]); 7] = [
 /// Whether the set of one id has it alone, and room as it is said.
 fn holds_one(alloc: Global, id: u32, rooms: &[(u32, bool)]) -> Result<bool, AllocError> {
     let set = set_of(alloc, &[id])?;
-    Ok(set.iter().eq([id]) && is_copied(&set)? && has_rooms(&set, rooms))
+    Ok(has_ids(&set, &[id]) && has_rooms(&set, rooms) && is_copied(&set)?)
 }
 
-#[test]
-fn hold_one_id_at_the_edges_of_each_form(rt: HostRuntime) -> Result<(), Fail> {
-    for (id, rooms) in &EDGES {
-        assert!(rt; holds_one(rt.alloc(), *id, rooms)?, "{id}");
+fn expect_edges(
+    rt: &impl Abort,
+    alloc: Global,
+    rows: &[(u32, &[(u32, bool)])],
+) -> Result<(), Fail> {
+    for (row, (id, rooms)) in rows.iter().enumerate() {
+        expect_row(rt, row, holds_one(alloc, *id, rooms))?;
     }
     Ok(())
 }
 
+#[test]
+fn hold_one_id_at_the_edges_of_each_form(rt: HostRuntime) -> Result<(), Fail> {
+    expect_edges(&rt, rt.alloc(), &EDGES)
+}
+
 /// Twelve ids in words of their own, up to the greatest.
-const GREATEST: [u32; 12] = [
+static GREATEST: [u32; 12] = [
     3_221_225_472,
     3_758_096_384,
     4_026_531_840,
@@ -184,28 +249,48 @@ const GREATEST: [u32; 12] = [
     4_294_967_295,
 ];
 
-#[test]
-fn hold_twelve_of_the_greatest_ids(rt: HostRuntime) -> Result<(), Fail> {
-    let mut set = set_of(rt.alloc(), &GREATEST)?;
-    assert!(rt; set.iter().eq(GREATEST));
-    assert!(rt; leaves_its_copy(&mut set, 4_294_967_294)?);
-    Ok(())
+/// Whether a set has these ids, and leaves its copy as it is.
+fn holds(alloc: Global, ids: &[u32], other: u32) -> Result<bool, AllocError> {
+    let mut set = set_of(alloc, ids)?;
+    Ok(has_ids(&set, ids) && leaves_its_copy(&mut set, other)?)
 }
 
-/// A list of a million words, of which each fourth holds an id.
+#[test]
+fn hold_twelve_of_the_greatest_ids(rt: HostRuntime) -> Result<(), Fail> {
+    expect(&rt, holds(rt.alloc(), &GREATEST, 4_294_967_294))
+}
+
+/// The set of 0 and so many ids less one after it, each a step after the one before it.
+fn set_of_steps(alloc: Global, count: u32, step: u32) -> Result<DenseHashSet, AllocError> {
+    let mut set = DenseHashSet::new(alloc);
+    for place in 0..count {
+        set.insert(step.wrapping_mul(place))?;
+    }
+    Ok(set)
+}
+
+/// Whether a set has these ids.
+fn has_steps(set: &DenseHashSet, count: u32, step: u32) -> bool {
+    set.iter()
+        .eq((0..count).map(|place| step.wrapping_mul(place)))
+}
+
+/// Whether a list of a million words, of which each fourth holds an id, has them, and room as it is said.
+fn holds_million(alloc: Global, rooms: &[(u32, bool)]) -> Result<bool, AllocError> {
+    let set = set_of_steps(alloc, 250_000, 128)?;
+    Ok(has_steps(&set, 250_000, 128) && has_rooms(&set, rooms))
+}
+
 #[test]
 fn hold_a_million_words(rt: HostRuntime) -> Result<(), Fail> {
-    let mut set = DenseHashSet::new(rt.alloc());
-    for place in 0..250_000u32 {
-        set.insert(128 * place)?;
-    }
-    assert!(rt; set.iter().eq((0..250_000u32).map(|place| 128 * place)));
-    assert!(rt; has_rooms(&set, &[(31_999_840, true), (31_999_904, false)]));
-    Ok(())
+    expect(
+        &rt,
+        holds_million(rt.alloc(), &[(31_999_840, true), (31_999_904, false)]),
+    )
 }
 
 /// Ids of two sets: a list and a list, one of the two with places, both, and both that make a list together.
-const PAIRS: [(&[u32], &[u32]); 7] = [
+static PAIRS: [(&[u32], &[u32]); 7] = [
     (&[7], &[100, 40]),
     (&[7, 40], &[100_000]),
     (&[100_000, 40], &[7, 40]),
@@ -215,20 +300,39 @@ const PAIRS: [(&[u32], &[u32]); 7] = [
     (&[1_000, 2_000, 3_000], &[2_001, 31, 1_000]),
 ];
 
-/// Whether the union of two sets is that of their ids, in either order, and so is its copy.
-fn is_joined(alloc: Global, ids: &[u32], others: &[u32]) -> Result<bool, AllocError> {
+/// Whether the union of two sets is this one, and so is its copy.
+fn is_union(
+    alloc: Global,
+    all: &DenseHashSet,
+    ids: &[u32],
+    others: &[u32],
+) -> Result<bool, AllocError> {
+    let joined = union_of(alloc, ids, others)?;
+    Ok(joined == *all && is_copied(&joined)?)
+}
+
+fn set_of_both(alloc: Global, ids: &[u32], others: &[u32]) -> Result<DenseHashSet, AllocError> {
     let mut all = set_of(alloc, ids)?;
     insert_all(&mut all, others)?;
-    let joined = union_of(alloc, ids, others)?;
-    Ok(joined == all && union_of(alloc, others, ids)? == all && is_copied(&joined)?)
+    Ok(all)
+}
+
+/// Whether the union of two sets is that of their ids, in either order, and so is its copy.
+fn is_joined(alloc: Global, ids: &[u32], others: &[u32]) -> Result<bool, AllocError> {
+    let all = set_of_both(alloc, ids, others)?;
+    Ok(is_union(alloc, &all, ids, others)? && is_union(alloc, &all, others, ids)?)
+}
+
+fn expect_pairs(rt: &impl Abort, alloc: Global, rows: &[(&[u32], &[u32])]) -> Result<(), Fail> {
+    for (row, (ids, others)) in rows.iter().enumerate() {
+        expect_row(rt, row, is_joined(alloc, ids, others))?;
+    }
+    Ok(())
 }
 
 #[test]
 fn are_joined_in_each_form(rt: HostRuntime) -> Result<(), Fail> {
-    for (ids, others) in &PAIRS {
-        assert!(rt; is_joined(rt.alloc(), ids, others)?, "{ids:?}");
-    }
-    Ok(())
+    expect_pairs(&rt, rt.alloc(), &PAIRS)
 }
 
 /// The ids of every `step`th word from `first` on, `count` of them.
@@ -242,7 +346,7 @@ fn far_apart(alloc: Global, first: u32, step: u32, count: u32) -> Result<Vec<u32
 
 /// What two sets of far ids have: words in turn, all of one after those of the other, some or all in both, and so many that both
 /// together make a list.
-const FAR: [[u32; 3]; 6] = [
+static FAR: [[u32; 3]; 6] = [
     [500, 1_000, 300],
     [400_000, 1_000, 300],
     [0, 1_500, 200],
@@ -251,43 +355,63 @@ const FAR: [[u32; 3]; 6] = [
     [1, 4, 75_000],
 ];
 
-#[test]
-fn are_joined_if_their_ids_are_far_apart(rt: HostRuntime) -> Result<(), Fail> {
-    let ids = far_apart(rt.alloc(), 0, 1_000, 300)?;
-    for [first, step, count] in FAR {
-        let others = far_apart(rt.alloc(), first, step, count)?;
-        assert!(rt;
-            is_joined(rt.alloc(), ids.as_slice(), others.as_slice())?,
-            "{first} {step}"
-        );
+/// Whether a set is joined with one of far ids.
+fn is_joined_with(alloc: Global, ids: &[u32], row: &[u32; 3]) -> Result<bool, AllocError> {
+    let [first, step, count] = *row;
+    let others = far_apart(alloc, first, step, count)?;
+    is_joined(alloc, ids, &others)
+}
+
+fn expect_far(rt: &impl Abort, alloc: Global, ids: &[u32], rows: &[[u32; 3]]) -> Result<(), Fail> {
+    for (place, row) in rows.iter().enumerate() {
+        expect_row(rt, place, is_joined_with(alloc, ids, row))?;
     }
     Ok(())
 }
 
-/// Two sets of 100,000 ids, each in a word of its own: what the union takes grows with what they hold.
+#[test]
+fn are_joined_if_their_ids_are_far_apart(rt: HostRuntime) -> Result<(), Fail> {
+    let ids = far_apart(rt.alloc(), 0, 1_000, 300)?;
+    expect_far(&rt, rt.alloc(), &ids, &FAR)
+}
+
+/// A set of 100,000 ids, each in a word of its own.
+fn large(alloc: Global, first: u32) -> Result<DenseHashSet, AllocError> {
+    let ids = far_apart(alloc, first, 400, 100_000)?;
+    set_of(alloc, &ids)
+}
+
+fn large_union(alloc: Global) -> Result<DenseHashSet, AllocError> {
+    let others = large(alloc, 200)?;
+    let mut set = large(alloc, 0)?;
+    set.union(&others)?;
+    Ok(set)
+}
+
+fn has_large_union(alloc: Global) -> Result<bool, AllocError> {
+    let set = large_union(alloc)?;
+    Ok(has_steps(&set, 200_000, 6_400))
+}
+
+/// What the union of two large sets takes grows with what they hold.
 #[test]
 fn are_joined_if_they_are_large(rt: HostRuntime) -> Result<(), Fail> {
-    let mut set = set_of(
-        rt.alloc(),
-        far_apart(rt.alloc(), 0, 400, 100_000)?.as_slice(),
-    )?;
-    let others = set_of(
-        rt.alloc(),
-        far_apart(rt.alloc(), 200, 400, 100_000)?.as_slice(),
-    )?;
-    set.union(&others)?;
-    assert!(rt; set.iter().eq((0..200_000u32).map(|place| 6_400 * place)));
-    Ok(())
+    expect(&rt, has_large_union(rt.alloc()))
+}
+
+/// Whether a set has the ids of an ordered one.
+fn follows(set: &DenseHashSet, ordered: &BTreeSet<u32>) -> bool {
+    set.iter().eq(ordered.iter().copied())
 }
 
 /// Whether a set that takes the ids in turn has those of an ordered set after each, and room for the last.
-fn follows(alloc: Global, ids: &[u32]) -> Result<bool, AllocError> {
+fn follow_each(alloc: Global, ids: &[u32]) -> Result<bool, AllocError> {
     let mut set = DenseHashSet::new(alloc);
     let mut ordered = BTreeSet::new(alloc);
     for id in ids {
         set.insert(*id)?;
         ordered.insert(*id)?;
-        if !set.iter().eq(ordered.iter().copied()) || !set.has_room(*id) {
+        if !follows(&set, &ordered) || !set.has_room(*id) {
             return Ok(false);
         }
     }
@@ -308,13 +432,17 @@ fn draw(alloc: Global, seed: u64) -> Result<Vec<u32>, AllocError> {
     Ok(ids)
 }
 
+/// Whether the ids of a seed follow an ordered set, and those of its two halves are joined.
+fn holds_of(alloc: Global, seed: u64) -> Result<bool, AllocError> {
+    let ids = draw(alloc, seed)?;
+    let (left, right) = ids.as_slice().split_at(ids.len() / 2);
+    Ok(follow_each(alloc, &ids)? && is_joined(alloc, left, right)?)
+}
+
 #[test]
 fn follow_an_ordered_set(rt: HostRuntime) -> Result<(), Fail> {
     for seed in 0..300 {
-        let ids = draw(rt.alloc(), seed)?;
-        assert!(rt; follows(rt.alloc(), ids.as_slice())?, "{seed}");
-        let (left, right) = ids.as_slice().split_at(ids.len() / 2);
-        assert!(rt; is_joined(rt.alloc(), left, right)?, "{seed}");
+        expect_row(&rt, seed, holds_of(rt.alloc(), seed as u64))?;
     }
     Ok(())
 }
