@@ -1,11 +1,12 @@
 //! What start tags gather.
 
+use crate::machines::are_reported;
 use lol_base::{LocalName, Namespace};
 use lol_instructions::{AddressRange, ExecutionBranch};
 use lol_memory::{DenseHashSet, MatchInfo};
 use lol_stack::ExecutionCtx;
+use lol_vm::Collected;
 use std::alloc::{AllocError, Global};
-use std::process::Abort;
 use std::test::Fail;
 use test_kit::Numbered;
 
@@ -47,46 +48,41 @@ fn add(
     ctx.add_execution_branch(alloc, &branch)
 }
 
-/// The ids that were reported with and without content, and whether memory for one was refused.
-#[derive(Drop)]
-struct Reported {
-    ids: Vec<(u32, bool)>,
-    refused: bool,
-}
-
-impl Reported {
-    fn keep(&mut self, found: MatchInfo) {
-        if self.ids.push((found.match_id, found.with_content)).is_err() {
-            self.refused = true;
-        }
+fn add_all(
+    ctx: &mut ExecutionCtx<'static, Numbered>,
+    alloc: Global,
+    branches: &[Branch],
+) -> Result<(), AllocError> {
+    for branch in branches {
+        add(ctx, alloc, branch)?;
     }
+    Ok(())
 }
 
-fn ids_of(
-    rt: &impl Abort,
+/// Whether exactly these ids are reported of a start tag, with this content mark.
+fn reports(
     alloc: Global,
     ctx: &mut ExecutionCtx<'_, Numbered>,
-) -> Vec<(u32, bool)> {
-    let mut reported = Reported {
-        ids: Vec::new(alloc),
-        refused: false,
-    };
+    ids: &[u32],
+    content: bool,
+) -> bool {
+    let mut reported = Collected::new(alloc);
     let mut handler = |found: MatchInfo| {
         reported.keep(found);
     };
     ctx.handle_matched_ids(&mut handler);
-    let Reported { ids, refused } = reported;
-    assert!(rt; !refused);
-    ids
+    !reported.refused && are_reported(&reported.items, ids, content)
+}
+
+/// A start tag that has gathered nothing.
+fn empty(alloc: Global) -> ExecutionCtx<'static, Numbered> {
+    ExecutionCtx::new(alloc, LocalName::new(b"x-Item"), Namespace::Svg, true)
 }
 
 /// A start tag that has gathered two branches.
 fn gathered(alloc: Global) -> Result<ExecutionCtx<'static, Numbered>, AllocError> {
-    let name = LocalName::new(b"x-Item");
-    let mut ctx = ExecutionCtx::new(alloc, name, Namespace::Svg, true);
-    for branch in &GATHERED {
-        add(&mut ctx, alloc, branch)?;
-    }
+    let mut ctx = empty(alloc);
+    add_all(&mut ctx, alloc, &GATHERED)?;
     Ok(ctx)
 }
 
@@ -96,58 +92,85 @@ fn has_ranges(ctx: &ExecutionCtx<'_, Numbered>) -> bool {
         && ctx.stack_item.hereditary_jumps.as_slice() == [5..6].as_slice()
 }
 
-/// Expects three ids and a range of each kind.
-fn expect_gathered(
-    rt: &impl Abort,
-    alloc: Global,
-    ctx: &mut ExecutionCtx<'_, Numbered>,
-    content: bool,
-) {
-    let ids = ids_of(rt, alloc, ctx);
-    assert!(rt; ids.as_slice() == [(3, content), (7, content), (40, content)].as_slice());
-    assert!(rt; has_ranges(ctx));
+/// Whether the ids and ranges are those of `GATHERED`.
+fn has_gathered(alloc: Global, ctx: &mut ExecutionCtx<'_, Numbered>, content: bool) -> bool {
+    reports(alloc, ctx, &[3, 7, 40], content) && has_ranges(ctx)
+}
+
+/// The same, once its element is said to have no content.
+fn has_gathered_without_content(alloc: Global, ctx: &mut ExecutionCtx<'_, Numbered>) -> bool {
+    ctx.with_content = false;
+    has_gathered(alloc, ctx, false)
+}
+
+fn are_gathered(alloc: Global) -> Result<bool, AllocError> {
+    let mut ctx = gathered(alloc)?;
+    Ok(has_gathered(alloc, &mut ctx, true) && has_gathered_without_content(alloc, &mut ctx))
 }
 
 #[test]
 fn are_ids_and_ranges(rt: HostRuntime) -> Result<(), Fail> {
-    let mut ctx = gathered(rt.alloc())?;
-    expect_gathered(&rt, rt.alloc(), &mut ctx, true);
-    ctx.with_content = false;
-    expect_gathered(&rt, rt.alloc(), &mut ctx, false);
+    assert!(rt; are_gathered(rt.alloc())?);
     Ok(())
 }
 
-/// The ids of a third branch too, for an element without content.
-const WITHOUT_CONTENT: [(u32, bool); 4] = [(1, false), (3, false), (7, false), (40, false)];
+/// Adds a third branch, for an element without content.
+fn add_without_content(
+    ctx: &mut ExecutionCtx<'static, Numbered>,
+    alloc: Global,
+) -> Result<(), AllocError> {
+    ctx.with_content = false;
+    add(ctx, alloc, &(&[1], Some((7, 8)), Some((8, 9))))
+}
 
+fn owned(
+    ctx: ExecutionCtx<'static, Numbered>,
+    alloc: Global,
+) -> Result<ExecutionCtx<'static, Numbered>, AllocError> {
+    ctx.into_owned(alloc)
+}
+
+/// A start tag without content that has gathered three branches.
 fn without_content(alloc: Global) -> Result<ExecutionCtx<'static, Numbered>, AllocError> {
     let mut ctx = gathered(alloc)?;
-    ctx.with_content = false;
-    add(&mut ctx, alloc, &(&[1], Some((7, 8)), Some((8, 9))))?;
-    Ok(ctx)
+    add_without_content(&mut ctx, alloc)?;
+    owned(ctx, alloc)
+}
+
+/// Whether a third branch brings its id, and no range, to an element without content.
+fn gains_no_range(alloc: Global) -> Result<bool, AllocError> {
+    let mut ctx = without_content(alloc)?;
+    let has_ids = reports(alloc, &mut ctx, &[1, 3, 7, 40], false);
+    Ok(has_ids && !ctx.with_content && has_ranges(&ctx))
 }
 
 #[test]
 fn gain_no_range_without_content(rt: HostRuntime) -> Result<(), Fail> {
-    let mut owned = without_content(rt.alloc())?.into_owned(rt.alloc())?;
-    assert!(rt; !owned.with_content && has_ranges(&owned));
-    let ids = ids_of(&rt, rt.alloc(), &mut owned);
-    assert!(rt; ids.as_slice() == WITHOUT_CONTENT.as_slice());
+    assert!(rt; gains_no_range(rt.alloc())?);
     Ok(())
 }
 
 #[test]
 fn are_none_at_first(rt: HostRuntime) {
-    let name = LocalName::new(b"x-Item");
-    let mut ctx = ExecutionCtx::new(rt.alloc(), name, Namespace::Svg, true);
-    assert!(rt; ids_of(&rt, rt.alloc(), &mut ctx).is_empty());
+    let mut ctx = empty(rt.alloc());
+    assert!(rt; reports(rt.alloc(), &mut ctx, &[], true));
+}
+
+/// Whether the name and the marks are those that the start tag was made with.
+fn is_as_made(ctx: &ExecutionCtx<'_, Numbered>) -> bool {
+    ctx.stack_item.local_name.spelling() == Some(b"x-Item".as_slice())
+        && ctx.with_content
+        && ctx.enable_esi_tags
+        && ctx.ns == Namespace::Svg
+}
+
+fn are_kept(alloc: Global) -> Result<bool, AllocError> {
+    let mut owned = owned(gathered(alloc)?, alloc)?;
+    Ok(has_gathered(alloc, &mut owned, true) && is_as_made(&owned))
 }
 
 #[test]
 fn are_kept_where_nothing_is_borrowed(rt: HostRuntime) -> Result<(), Fail> {
-    let mut owned = gathered(rt.alloc())?.into_owned(rt.alloc())?;
-    expect_gathered(&rt, rt.alloc(), &mut owned, true);
-    assert!(rt; owned.stack_item.local_name.spelling() == Some(b"x-Item".as_slice()));
-    assert!(rt; owned.with_content && owned.enable_esi_tags && owned.ns == Namespace::Svg);
+    assert!(rt; are_kept(rt.alloc())?);
     Ok(())
 }

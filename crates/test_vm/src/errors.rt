@@ -1,7 +1,8 @@
 //! What errors say, and how they are passed on as a caller's own.
 
+use crate::machine_runs::Machine;
 use lol_vm::{
-    AddChildError, Attributes, LocalName, MatchInfo, Namespace, RunCause, RunRefusal, RunStop,
+    AddChildError, Ast, Attributes, LocalName, MatchInfo, Namespace, RunCause, RunRefusal, RunStop,
     SelectorError, SelectorMatchingVm, SharedMemoryLimiter, StartTagError, TagEvent, TagReport,
     VmError, match_each_event,
 };
@@ -28,6 +29,11 @@ enum PageError {
 /// Reads a page with a limit that its first element passes.
 fn read_page(alloc: Global) -> Result<(), PageError> {
     let ast = selectors(alloc, &[("div", 0)])?;
+    Ok(stop_of(alloc, ast)?)
+}
+
+/// A run over one `div`, with a limit that it passes.
+fn stop_of(alloc: Global, ast: Ast) -> Result<(), RunStop> {
     let none = Attributes::new(alloc);
     let events = [TagEvent::Start {
         name: b"div",
@@ -37,20 +43,32 @@ fn read_page(alloc: Global) -> Result<(), PageError> {
     }];
     let mut limiter = SharedMemoryLimiter::new(63);
     let mut handler = |report: TagReport| drop(report);
-    match_each_event(alloc, ast, 64, false, &events, &mut limiter, &mut handler)?;
-    Ok(())
+    match_each_event(alloc, ast, 64, false, &events, &mut limiter, &mut handler)
+}
+
+fn machine(alloc: Global, text: &str) -> Result<Machine, SelectorError> {
+    let ast = selectors(alloc, &[(text, 0)])?;
+    Ok(SelectorMatchingVm::new(alloc, ast, 64, false)?)
+}
+
+/// Tells a machine of a start tag of HTML, and discards it.
+fn answer(
+    mut vm: Machine,
+    limiter: &mut SharedMemoryLimiter,
+    name: &[u8],
+) -> Result<(), VmError<Numbered>> {
+    let mut handler = |_info: MatchInfo| {};
+    let name = LocalName::new(name);
+    let answered = vm.exec_for_start_tag(name, Namespace::Html, limiter, &mut handler);
+    vm.discard();
+    answered
 }
 
 /// Tells a machine of a start tag whose attributes are asked for.
 fn start_tag(alloc: Global) -> Result<(), PageError> {
-    let ast = selectors(alloc, &[("#a", 0)])?;
-    let mut vm: SelectorMatchingVm<Numbered> = SelectorMatchingVm::new(alloc, ast, 64, false)?;
+    let vm = machine(alloc, "#a")?;
     let mut limiter = SharedMemoryLimiter::new(1000);
-    let mut handler = |_info: MatchInfo| {};
-    let name = LocalName::new(b"p");
-    let answered = vm.exec_for_start_tag(name, Namespace::Html, &mut limiter, &mut handler);
-    vm.discard();
-    Ok(answered?)
+    Ok(answer(vm, &mut limiter, b"p")?)
 }
 
 fn says(rt: &impl Abort, alloc: Global, error: &impl Display, wanted: &str) -> Result<(), Fail> {
@@ -99,17 +117,30 @@ fn machine_says(
     says(rt, alloc, &error, wanted)
 }
 
+/// What the errors of a start tag say.
+const OF_START_TAGS: [(StartTagError, &str); 4] = [
+    (StartTagError::CounterFull, MANY),
+    (StartTagError::Memory, "out of memory"),
+    (
+        StartTagError::MemoryLimitExceeded,
+        "the memory limit would have been passed",
+    ),
+    (StartTagError::Failed, FAILED),
+];
+
+fn all_say(rt: &impl Abort, alloc: Global, rows: &[(StartTagError, &str)]) -> Result<(), Fail> {
+    for (error, wanted) in rows {
+        says(rt, alloc, error, wanted)?;
+    }
+    Ok(())
+}
+
 #[test]
 fn say_why_a_start_tag_was_refused(rt: HostRuntime) -> Result<(), Fail> {
-    let alloc = rt.alloc();
-    let limit = "the memory limit would have been passed";
-    machine_says(&rt, alloc, VmError::CounterFull, MANY)?;
-    machine_says(&rt, alloc, VmError::Failed, FAILED)?;
-    says(&rt, alloc, &AddChildError::CounterFull, MANY)?;
-    says(&rt, alloc, &StartTagError::CounterFull, MANY)?;
-    says(&rt, alloc, &StartTagError::Memory, "out of memory")?;
-    says(&rt, alloc, &StartTagError::MemoryLimitExceeded, limit)?;
-    says(&rt, alloc, &StartTagError::Failed, FAILED)
+    machine_says(&rt, rt.alloc(), VmError::CounterFull, MANY)?;
+    machine_says(&rt, rt.alloc(), VmError::Failed, FAILED)?;
+    says(&rt, rt.alloc(), &AddChildError::CounterFull, MANY)?;
+    all_say(&rt, rt.alloc(), &OF_START_TAGS)
 }
 
 #[test]
@@ -129,17 +160,15 @@ fn say_which_event_was_refused(rt: HostRuntime) -> Result<(), Fail> {
     )
 }
 
+/// Whether a machine answers a `div` before it is discarded.
+fn answers_div(vm: Machine, limiter: &mut SharedMemoryLimiter) -> bool {
+    answer(vm, limiter, b"div").is_ok()
+}
+
 #[test]
 fn leave_the_charge_of_a_discarded_machine(rt: HostRuntime) -> Result<(), Fail> {
-    let alloc = rt.alloc();
-    let ast = selectors(alloc, &[("div", 0)])?;
-    let mut vm: SelectorMatchingVm<Numbered> = SelectorMatchingVm::new(alloc, ast, 64, false)?;
+    let vm = machine(rt.alloc(), "div")?;
     let mut limiter = SharedMemoryLimiter::new(1000);
-    let mut handler = |_info: MatchInfo| {};
-    let name = LocalName::new(b"div");
-    let answered = vm.exec_for_start_tag(name, Namespace::Html, &mut limiter, &mut handler);
-    assert!(rt; answered.is_ok());
-    vm.discard();
-    assert!(rt; limiter.current_usage() == 512);
+    assert!(rt; answers_div(vm, &mut limiter) && limiter.current_usage() == 512);
     Ok(())
 }

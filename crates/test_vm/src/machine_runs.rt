@@ -4,56 +4,15 @@ ghost use Rattle.std.specs.Prelude.{◌≡◌};
 ghost use Rattle.lol_vm.specs.Vms.{slot_bytes};
 
 use lol_vm::{
-    Ast, AuxStartTagInfoRequest, Collected, LocalName, MatchInfo, Namespace, SelectorMatchingVm,
-    SharedMemoryLimiter, StartTagError, VmError,
+    Ast, Attributes, AuxStartTagInfoRequest, Collected, LocalName, MatchInfo, Namespace,
+    SelectorMatchingVm, SharedMemoryLimiter, StartTagError, VmError,
 };
 use std::alloc::Global;
 use std::process::Abort;
-use test_kit::{Numbered, WrittenAttributes, written_attributes};
+use test_kit::{Numbered, TagWord};
 
 /// How many bytes an open element is charged for.
 pub(crate) const ITEM_BYTES: usize = 64;
-
-/// A start tag as it is written.
-#[derive(Clone, Copy)]
-pub(crate) struct Written<'t> {
-    pub name: &'t str,
-    pub ns: Namespace,
-    pub attributes: WrittenAttributes<'t>,
-    pub self_closing: bool,
-}
-
-impl<'t> Written<'t> {
-    /// A tag of HTML without attributes.
-    pub(crate) fn html(name: &'t str) -> Self {
-        Written {
-            name,
-            ns: Namespace::Html,
-            attributes: &[],
-            self_closing: false,
-        }
-    }
-
-    /// A tag of SVG without attributes.
-    pub(crate) fn svg(name: &'t str) -> Self {
-        Written::html(name).of(Namespace::Svg)
-    }
-
-    pub(crate) fn of(self, ns: Namespace) -> Self {
-        Written { ns, ..self }
-    }
-
-    pub(crate) fn with(self, attributes: WrittenAttributes<'t>) -> Self {
-        Written { attributes, ..self }
-    }
-
-    pub(crate) fn closing_itself(self) -> Self {
-        Written {
-            self_closing: true,
-            ..self
-        }
-    }
-}
 
 /// What a machine says of a start tag.
 #[derive(Debug, Clone, Copy, PartialEq, Eq)]
@@ -62,6 +21,8 @@ pub(crate) enum Said {
     Asked,
     OverLimit,
     Failed,
+    /// What no test wants.
+    Other,
 }
 
 /// When a machine is told of the attributes of a start tag.
@@ -94,95 +55,143 @@ pub(crate) fn machine_with(
     SelectorMatchingVm::new(alloc, ast, ITEM_BYTES, enable_esi_tags).expect(rt, "memory")
 }
 
-/// Tells a machine of a start tag and, where it asks, of its attributes: what it says, and what it reports.
-pub(crate) fn start(
-    rt: &impl Abort,
-    alloc: Global,
+/// Tells a machine of a start tag without its attributes.
+fn tell(
     vm: &mut Machine,
     limiter: &mut SharedMemoryLimiter,
-    tag: Written<'_>,
-) -> (Said, Vec<MatchInfo>)
+    tag: &TagWord<'_>,
+    reports: &mut Collected<MatchInfo>,
+) -> Result<(), VmError<Numbered>>
     ensures { slot_bytes vm.new ≡ slot_bytes vm.old }
 {
-    let mut reports = Collected::new(alloc);
     let mut handler = |info: MatchInfo| {
         reports.keep(info);
     };
     let name = LocalName::new(tag.name.as_bytes());
-    let said = match vm.exec_for_start_tag(name, tag.ns, limiter, &mut handler) {
-        Ok(()) => Said::Unasked,
-        Err(VmError::InfoRequest(request)) => {
-            let written = written_attributes(alloc, tag.attributes).expect(rt, "memory");
-            let info = written.aux_info(tag.self_closing);
-            let finished = vm.finish_start_tag(request, info, limiter, &mut handler);
-            assert!(rt; finished.is_ok());
-            Said::Asked
-        }
-        Err(VmError::MemoryLimitExceeded(_)) => Said::OverLimit,
-        Err(error) => {
-            assert!(rt; matches!(&error, VmError::Failed));
-            Said::Failed
-        }
-    };
-    let Collected { items, refused } = reports;
-    assert!(rt; !refused);
-    (said, items)
+    vm.exec_for_start_tag(name, tag.ns, limiter, &mut handler)
 }
 
-/// The same of one whose attributes are told at once.
-pub(crate) fn start_whole(
-    rt: &impl Abort,
+/// Tells a machine of the attributes that it has asked for.
+fn finish(
     alloc: Global,
     vm: &mut Machine,
     limiter: &mut SharedMemoryLimiter,
-    tag: Written<'_>,
+    tag: &TagWord<'_>,
+    request: AuxStartTagInfoRequest<Numbered>,
+    reports: &mut Collected<MatchInfo>,
+) -> Said
+    ensures { slot_bytes vm.new ≡ slot_bytes vm.old }
+{
+    let Ok(written) = tag.attributes(alloc) else {
+        return Said::Other;
+    };
+    let mut handler = |info: MatchInfo| {
+        reports.keep(info);
+    };
+    let info = written.aux_info(tag.self_closing);
+    match vm.finish_start_tag(request, info, limiter, &mut handler) {
+        Ok(()) => Said::Asked,
+        Err(_) => Said::Other,
+    }
+}
+
+/// What was said, with all that was reported.
+fn with_reports(said: Said, reports: Collected<MatchInfo>) -> (Said, Vec<MatchInfo>) {
+    let Collected { items, refused } = reports;
+    (if refused { Said::Other } else { said }, items)
+}
+
+/// Tells a machine of a start tag and, where it asks, of its attributes: what it says, and what it reports.
+pub(crate) fn start(
+    alloc: Global,
+    vm: &mut Machine,
+    limiter: &mut SharedMemoryLimiter,
+    tag: &TagWord<'_>,
 ) -> (Said, Vec<MatchInfo>)
     ensures { slot_bytes vm.new ≡ slot_bytes vm.old }
 {
     let mut reports = Collected::new(alloc);
+    let said = match tell(vm, limiter, tag, &mut reports) {
+        Ok(()) => Said::Unasked,
+        Err(VmError::InfoRequest(request)) => {
+            finish(alloc, vm, limiter, tag, request, &mut reports)
+        }
+        Err(VmError::MemoryLimitExceeded(_)) => Said::OverLimit,
+        Err(VmError::Failed) => Said::Failed,
+        Err(_) => Said::Other,
+    };
+    with_reports(said, reports)
+}
+
+/// Tells a machine of a start tag with its attributes: whether these were needed.
+fn tell_whole(
+    vm: &mut Machine,
+    limiter: &mut SharedMemoryLimiter,
+    tag: &TagWord<'_>,
+    attributes: &Attributes,
+    reports: &mut Collected<MatchInfo>,
+) -> Result<bool, StartTagError>
+    ensures { slot_bytes vm.new ≡ slot_bytes vm.old }
+{
     let mut handler = |info: MatchInfo| {
         reports.keep(info);
     };
     let name = LocalName::new(tag.name.as_bytes());
-    let written = written_attributes(alloc, tag.attributes).expect(rt, "memory");
-    let info = written.aux_info(tag.self_closing);
-    let said = match vm.exec_for_whole_start_tag(name, tag.ns, info, limiter, &mut handler) {
+    let info = attributes.aux_info(tag.self_closing);
+    vm.exec_for_whole_start_tag(name, tag.ns, info, limiter, &mut handler)
+}
+
+/// The same as `start` of one whose attributes are told at once.
+pub(crate) fn start_whole(
+    alloc: Global,
+    vm: &mut Machine,
+    limiter: &mut SharedMemoryLimiter,
+    tag: &TagWord<'_>,
+) -> (Said, Vec<MatchInfo>)
+    ensures { slot_bytes vm.new ≡ slot_bytes vm.old }
+{
+    let mut reports = Collected::new(alloc);
+    let said = match tag.attributes(alloc) {
+        Ok(attributes) => said_at_once(tell_whole(vm, limiter, tag, &attributes, &mut reports)),
+        Err(_) => Said::Other,
+    };
+    with_reports(said, reports)
+}
+
+fn said_at_once(answer: Result<bool, StartTagError>) -> Said {
+    match answer {
         Ok(false) => Said::Unasked,
         Ok(true) => Said::Asked,
         Err(StartTagError::MemoryLimitExceeded) => Said::OverLimit,
-        Err(error) => {
-            assert!(rt; error == StartTagError::Failed);
-            Said::Failed
-        }
-    };
-    let Collected { items, refused } = reports;
-    assert!(rt; !refused);
-    (said, items)
+        Err(StartTagError::Failed) => Said::Failed,
+        Err(_) => Said::Other,
+    }
 }
 
-/// Tells a machine of a start tag, and drops its request for attributes.
-pub(crate) fn start_and_drop(
-    rt: &impl Abort,
+/// Tells a machine of a start tag, and drops its request for attributes: whether they are asked for, and nothing is reported.
+pub(crate) fn is_dropped(
+    alloc: Global,
     vm: &mut Machine,
     limiter: &mut SharedMemoryLimiter,
-    tag: Written<'_>,
-)
+    tag: &TagWord<'_>,
+) -> bool
     ensures { slot_bytes vm.new ≡ slot_bytes vm.old }
 {
-    let mut count = 0;
-    let mut handler = |_: MatchInfo| {
-        count = 1;
-    };
-    let name = LocalName::new(tag.name.as_bytes());
-    let asked = match vm.exec_for_start_tag(name, tag.ns, limiter, &mut handler) {
-        Err(VmError::InfoRequest(_)) => true,
-        _ => false,
-    };
-    assert!(rt; asked && count == 0);
+    let mut reports = Collected::new(alloc);
+    let asked = matches!(
+        tell(vm, limiter, tag, &mut reports),
+        Err(VmError::InfoRequest(_))
+    );
+    asked && is_empty(&reports)
+}
+
+/// Whether nothing was collected.
+pub(crate) fn is_empty<T>(collected: &Collected<T>) -> bool {
+    collected.items.len() == 0 && !collected.refused
 }
 
 /// Tells a machine of an end tag: the data that it hands out.
-pub(crate) fn end(rt: &impl Abort, alloc: Global, vm: &mut Machine, name: &str) -> Vec<Numbered>
+pub(crate) fn end(alloc: Global, vm: &mut Machine, name: &str) -> Collected<Numbered>
     ensures { slot_bytes vm.new ≡ slot_bytes vm.old }
 {
     let mut closed = Collected::new(alloc);
@@ -190,9 +199,7 @@ pub(crate) fn end(rt: &impl Abort, alloc: Global, vm: &mut Machine, name: &str) 
         closed.keep(data);
     };
     vm.exec_for_end_tag(LocalName::new(name.as_bytes()), &mut handler);
-    let Collected { items, refused } = closed;
-    assert!(rt; !refused);
-    items
+    closed
 }
 
 /// Gives the last open element a number.

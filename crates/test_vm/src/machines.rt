@@ -4,35 +4,57 @@ ghost use Rattle.std.specs.Prelude.{◌≡◌};
 ghost use Rattle.lol_vm.specs.Vms.{slot_bytes};
 
 use crate::machine_runs::{
-    Machine, Said, Told, Written, end, machine, machine_with, number, release, start,
-    start_and_drop, start_whole,
+    Machine, Said, Told, end, is_dropped, machine, machine_with, number, release, start,
+    start_whole,
 };
-use lol_vm::{Ast, MatchInfo, SharedMemoryLimiter};
+use lol_vm::{Ast, Collected, MatchInfo, SharedMemoryLimiter};
 use std::alloc::Global;
 use std::process::Abort;
 use std::test::Fail;
-use test_kit::{Numbered, selectors};
+use test_kit::{Numbered, TagWord, selectors};
 
-/// A step of a run, with what has to come of it.
+/// A step of a run, whose tags are words, with what has to come of it.
 #[derive(Clone, Copy)]
 pub(crate) enum Step<'t> {
     /// A start tag that is answered, and finished where it is asked for: the ids, whether with content, and the tries.
-    Start(Written<'t>, Said, &'t [u32], bool, (u64, u64)),
+    Start(&'t str, Said, &'t [u32], bool, (u64, u64)),
     /// A start tag that is asked for and dropped.
-    Dropped(Written<'t>),
+    Dropped(&'t str),
     /// An end tag: the ids of each of the data that it hands out.
     End(&'t str, &'t [&'t [u32]]),
     /// So many bytes and slots are charged.
     Charged(usize, usize),
 }
 
+impl Step<'_> {
+    /// Its tag, where it has one.
+    fn tag(&self) -> &str {
+        match self {
+            Step::Start(tag, ..) | Step::Dropped(tag) => tag,
+            Step::End(name, _) => name,
+            Step::Charged(..) => "charge",
+        }
+    }
+}
+
 /// Selectors under ids, whether ESI is on, and steps.
 type Row<'t> = (&'t [(&'t str, u32)], bool, &'t [Step<'t>]);
 
 /// Whether data hold exactly these ids, in turn.
-fn hold(data: &[Numbered], ids: &[&[u32]]) -> bool {
-    data.len() == ids.len()
-        && data.iter().zip(ids).all(|(data, ids)| data.matched_ids.iter().eq(ids.iter().copied()))
+fn hold(data: &Collected<Numbered>, ids: &[&[u32]]) -> bool {
+    if data.refused || data.items.len() != ids.len() {
+        return false;
+    }
+    for (data, ids) in data.items.iter().zip(ids) {
+        if !has_ids(data, ids) {
+            return false;
+        }
+    }
+    true
+}
+
+fn has_ids(data: &Numbered, ids: &[u32]) -> bool {
+    data.matched_ids.iter().eq(ids.iter().copied())
 }
 
 /// Whether exactly these ids were reported, with this content mark.
@@ -48,6 +70,48 @@ pub(crate) fn are_reported(infos: &[MatchInfo], ids: &[u32], content: bool) -> b
     true
 }
 
+fn tell(
+    alloc: Global,
+    vm: &mut Machine,
+    limiter: &mut SharedMemoryLimiter,
+    told: Told,
+    tag: &TagWord<'_>,
+) -> (Said, Vec<MatchInfo>)
+    ensures { slot_bytes vm.new ≡ slot_bytes vm.old }
+{
+    match told {
+        Told::WhereAsked => start(alloc, vm, limiter, tag),
+        Told::AtOnce => start_whole(alloc, vm, limiter, tag),
+    }
+}
+
+fn has_tried(vm: &Machine, tries: (u64, u64)) -> bool {
+    (vm.tries().names(), vm.tries().attributes()) == tries
+}
+
+/// Takes a step, and answers whether what came of it is what had to.
+fn is_taken(
+    alloc: Global,
+    vm: &mut Machine,
+    limiter: &mut SharedMemoryLimiter,
+    told: Told,
+    step: &Step<'_>,
+) -> bool
+    ensures { slot_bytes vm.new ≡ slot_bytes vm.old }
+{
+    match step {
+        Step::Start(tag, wanted, ids, content, tries) => {
+            let (said, infos) = tell(alloc, vm, limiter, told, &TagWord::of(tag));
+            said == *wanted && are_reported(&infos, ids, *content) && has_tried(vm, *tries)
+        }
+        Step::Dropped(tag) => is_dropped(alloc, vm, limiter, &TagWord::of(tag)),
+        Step::End(name, ids) => hold(&end(alloc, vm, name), ids),
+        Step::Charged(bytes, slots) => {
+            limiter.current_usage() == *bytes && vm.charged_slots() == *slots
+        }
+    }
+}
+
 pub(crate) fn take_step(
     rt: &impl Abort,
     alloc: Global,
@@ -58,26 +122,7 @@ pub(crate) fn take_step(
 )
     ensures { slot_bytes vm.new ≡ slot_bytes vm.old }
 {
-    match step {
-        Step::Start(tag, wanted, ids, content, tries) => {
-            let (said, infos) = match told {
-                Told::WhereAsked => start(rt, alloc, vm, limiter, *tag),
-                Told::AtOnce => start_whole(rt, alloc, vm, limiter, *tag),
-            };
-            let as_wanted = said == *wanted && are_reported(&infos, ids, *content);
-            let as_tried = (vm.tries().names(), vm.tries().attributes()) == *tries;
-            assert!(rt; as_wanted && as_tried, "{}", tag.name);
-        }
-        Step::Dropped(tag) => start_and_drop(rt, vm, limiter, *tag),
-        Step::End(name, ids) => {
-            let closed = end(rt, alloc, vm, name);
-            assert!(rt; hold(&closed, ids), "end of {}", *name);
-        }
-        Step::Charged(bytes, slots) => {
-            let charged = (limiter.current_usage(), vm.charged_slots());
-            assert!(rt; charged == (*bytes, *slots));
-        }
-    }
+    assert!(rt; is_taken(alloc, vm, limiter, told, step), "{}", step.tag());
 }
 
 /// Ample memory.
@@ -86,11 +131,12 @@ const AMPLE: usize = 1_000_000;
 /// Takes the steps of a row on two machines of their own, with so many bytes at most: one is told of attributes where it asks, and one at
 /// once.
 fn check(rt: &impl Abort, alloc: Global, max: usize, row: Row<'_>) -> Result<(), Fail> {
-    take_steps(rt, alloc, max, Told::WhereAsked, row)?;
-    take_steps(rt, alloc, max, Told::AtOnce, row)
+    check_told(rt, alloc, max, Told::WhereAsked, row)?;
+    check_told(rt, alloc, max, Told::AtOnce, row)
 }
 
-fn take_steps(
+/// Takes the steps of a row on a machine of their own.
+fn check_told(
     rt: &impl Abort,
     alloc: Global,
     max: usize,
@@ -101,12 +147,25 @@ fn take_steps(
     let ast = selectors(alloc, texts)?;
     let mut limiter = SharedMemoryLimiter::new(max);
     let mut vm = machine_with(rt, alloc, ast, esi);
-    for step in steps {
-        take_step(rt, alloc, &mut vm, &mut limiter, told, step);
-    }
+    take_steps(rt, alloc, &mut vm, &mut limiter, told, steps);
     release(rt, vm, &mut limiter);
     assert!(rt; limiter.current_usage() == 0);
     Ok(())
+}
+
+pub(crate) fn take_steps(
+    rt: &impl Abort,
+    alloc: Global,
+    vm: &mut Machine,
+    limiter: &mut SharedMemoryLimiter,
+    told: Told,
+    steps: &[Step<'_>],
+)
+    ensures { slot_bytes vm.new ≡ slot_bytes vm.old }
+{
+    for step in steps {
+        take_step(rt, alloc, vm, limiter, told, step);
+    }
 }
 
 use Said::{Asked, Failed, OverLimit, Unasked};
@@ -122,9 +181,9 @@ fn combine_children_and_descendants(rt: HostRuntime) -> Result<(), Fail> {
             &[("div p", 0), ("div > p", 1)],
             false,
             &[
-                Start(Written::html("div"), Unasked, &[], true, (1, 0)),
-                Start(Written::html("section"), Unasked, &[], true, (3, 0)),
-                Start(Written::html("p"), Unasked, &[0], true, (2, 0)),
+                Start("div", Unasked, &[], true, (1, 0)),
+                Start("section", Unasked, &[], true, (3, 0)),
+                Start("p", Unasked, &[0], true, (2, 0)),
                 End("div", &[&[], &[], &[0]]),
             ],
         ),
@@ -133,8 +192,8 @@ fn combine_children_and_descendants(rt: HostRuntime) -> Result<(), Fail> {
 
 #[test]
 fn find_descendants_again(rt: HostRuntime) -> Result<(), Fail> {
-    let first = Start(Written::html("div"), Unasked, &[], true, (1, 0));
-    let inside = Start(Written::html("div"), Unasked, &[0], true, (2, 0));
+    let first = Start("div", Unasked, &[], true, (1, 0));
+    let inside = Start("div", Unasked, &[0], true, (2, 0));
     check(
         &rt,
         rt.alloc(),
@@ -149,7 +208,6 @@ fn find_descendants_again(rt: HostRuntime) -> Result<(), Fail> {
 
 #[test]
 fn stop_at_an_entry(rt: HostRuntime) -> Result<(), Fail> {
-    let class_a = Written::html("div").with(&[("class", Some("a"))]);
     check(
         &rt,
         rt.alloc(),
@@ -158,8 +216,8 @@ fn stop_at_an_entry(rt: HostRuntime) -> Result<(), Fail> {
             &[(".a p", 0), ("p", 1)],
             false,
             &[
-                Start(class_a, Asked, &[], true, (2, 1)),
-                Start(Written::html("p"), Asked, &[0, 1], true, (3, 1)),
+                Start("div@class=a", Asked, &[], true, (2, 1)),
+                Start("p", Asked, &[0, 1], true, (3, 1)),
             ],
         ),
     )
@@ -167,7 +225,6 @@ fn stop_at_an_entry(rt: HostRuntime) -> Result<(), Fail> {
 
 #[test]
 fn stop_at_a_child(rt: HostRuntime) -> Result<(), Fail> {
-    let class_b = Written::html("p").with(&[("class", Some("b"))]);
     check(
         &rt,
         rt.alloc(),
@@ -176,8 +233,8 @@ fn stop_at_a_child(rt: HostRuntime) -> Result<(), Fail> {
             &[("div > .a", 0), ("div .b", 1), ("div > p", 2)],
             false,
             &[
-                Start(Written::html("div"), Unasked, &[], true, (1, 0)),
-                Start(class_b, Asked, &[1, 2], true, (4, 2)),
+                Start("div", Unasked, &[], true, (1, 0)),
+                Start("p@class=b", Asked, &[1, 2], true, (4, 2)),
             ],
         ),
     )
@@ -185,7 +242,6 @@ fn stop_at_a_child(rt: HostRuntime) -> Result<(), Fail> {
 
 #[test]
 fn stop_at_a_descendant(rt: HostRuntime) -> Result<(), Fail> {
-    let class_b = Written::html("p").with(&[("class", Some("b"))]);
     check(
         &rt,
         rt.alloc(),
@@ -194,9 +250,9 @@ fn stop_at_a_descendant(rt: HostRuntime) -> Result<(), Fail> {
             &[("div .b", 0)],
             false,
             &[
-                Start(Written::html("div"), Unasked, &[], true, (1, 0)),
-                Start(Written::html("section"), Asked, &[], true, (2, 1)),
-                Start(class_b, Asked, &[0], true, (2, 1)),
+                Start("div", Unasked, &[], true, (1, 0)),
+                Start("section", Asked, &[], true, (2, 1)),
+                Start("p@class=b", Asked, &[0], true, (2, 1)),
             ],
         ),
     )
@@ -212,8 +268,8 @@ fn ask_where_attributes_decide(rt: HostRuntime) -> Result<(), Fail> {
             &[(":not(div.foo)", 0)],
             false,
             &[
-                Start(Written::html("div"), Asked, &[0], true, (1, 1)),
-                Start(Written::html("p"), Unasked, &[0], true, (1, 0)),
+                Start("div", Asked, &[0], true, (1, 1)),
+                Start("p", Unasked, &[0], true, (1, 0)),
             ],
         ),
     )
@@ -221,7 +277,6 @@ fn ask_where_attributes_decide(rt: HostRuntime) -> Result<(), Fail> {
 
 #[test]
 fn try_each_test_of_attributes(rt: HostRuntime) -> Result<(), Fail> {
-    let p = Written::html("p").with(&[("a", Some("x"))]);
     check(
         &rt,
         rt.alloc(),
@@ -229,14 +284,13 @@ fn try_each_test_of_attributes(rt: HostRuntime) -> Result<(), Fail> {
         (
             &[("[a*=\"\"]", 0), (":not([a*=\"\"])", 1)],
             false,
-            &[Start(p, Asked, &[1], true, (2, 2))],
+            &[Start("p@a=x", Asked, &[1], true, (2, 2))],
         ),
     )
 }
 
 #[test]
 fn compare_type_by_namespace(rt: HostRuntime) -> Result<(), Fail> {
-    let text = &[("type", Some("text"))];
     check(
         &rt,
         rt.alloc(),
@@ -245,14 +299,24 @@ fn compare_type_by_namespace(rt: HostRuntime) -> Result<(), Fail> {
             &[("[type=\"TEXT\"]", 0)],
             false,
             &[
-                Start(
-                    Written::html("input").with(text),
-                    Asked,
-                    &[0],
-                    false,
-                    (1, 1),
-                ),
-                Start(Written::svg("input").with(text), Asked, &[], true, (1, 1)),
+                Start("input@type=text", Asked, &[0], false, (1, 1)),
+                Start("svg:input@type=text", Asked, &[], true, (1, 1)),
+            ],
+        ),
+    )
+}
+
+fn know_no_names_of_esi(rt: &impl Abort, alloc: Global) -> Result<(), Fail> {
+    check(
+        rt,
+        alloc,
+        AMPLE,
+        (
+            &[("*", 0)],
+            false,
+            &[
+                Start("esi:include", Unasked, &[0], true, (1, 0)),
+                End("esi:include", &[&[0]]),
             ],
         ),
     )
@@ -260,8 +324,7 @@ fn compare_type_by_namespace(rt: HostRuntime) -> Result<(), Fail> {
 
 #[test]
 fn know_names_of_esi(rt: HostRuntime) -> Result<(), Fail> {
-    let lower = Written::html("esi:include");
-    let upper = Written::html("ESI:INCLUDE");
+    know_no_names_of_esi(&rt, rt.alloc())?;
     check(
         &rt,
         rt.alloc(),
@@ -270,21 +333,8 @@ fn know_names_of_esi(rt: HostRuntime) -> Result<(), Fail> {
             &[("*", 0)],
             true,
             &[
-                Start(lower, Unasked, &[0], false, (1, 0)),
-                Start(upper, Unasked, &[0], true, (1, 0)),
-                End("esi:include", &[&[0]]),
-            ],
-        ),
-    )?;
-    check(
-        &rt,
-        rt.alloc(),
-        AMPLE,
-        (
-            &[("*", 0)],
-            false,
-            &[
-                Start(lower, Unasked, &[0], true, (1, 0)),
+                Start("esi:include", Unasked, &[0], false, (1, 0)),
+                Start("ESI:INCLUDE", Unasked, &[0], true, (1, 0)),
                 End("esi:include", &[&[0]]),
             ],
         ),
@@ -301,8 +351,8 @@ fn count_dropped_elements(rt: HostRuntime) -> Result<(), Fail> {
             &[(":nth-child(2)", 0)],
             false,
             &[
-                Dropped(Written::svg("g")),
-                Start(Written::html("p"), Unasked, &[0], true, (1, 0)),
+                Dropped("svg:g"),
+                Start("p", Unasked, &[0], true, (1, 0)),
                 End("g", &[]),
             ],
         ),
@@ -311,7 +361,6 @@ fn count_dropped_elements(rt: HostRuntime) -> Result<(), Fail> {
 
 #[test]
 fn leave_foreign_elements_that_close_themselves(rt: HostRuntime) -> Result<(), Fail> {
-    let circle = Written::svg("circle");
     check(
         &rt,
         rt.alloc(),
@@ -320,9 +369,9 @@ fn leave_foreign_elements_that_close_themselves(rt: HostRuntime) -> Result<(), F
             &[("circle", 0)],
             false,
             &[
-                Start(circle.closing_itself(), Asked, &[0], false, (1, 0)),
+                Start("svg:circle/", Asked, &[0], false, (1, 0)),
                 End("circle", &[]),
-                Start(circle, Asked, &[0], true, (1, 0)),
+                Start("svg:circle", Asked, &[0], true, (1, 0)),
                 End("circle", &[&[0]]),
             ],
         ),
@@ -331,7 +380,7 @@ fn leave_foreign_elements_that_close_themselves(rt: HostRuntime) -> Result<(), F
 
 /// A start tag that `*` matches under 0.
 fn opens(name: &str) -> Step<'_> {
-    Start(Written::html(name), Unasked, &[0], true, (1, 0))
+    Start(name, Unasked, &[0], true, (1, 0))
 }
 
 #[test]
@@ -361,9 +410,9 @@ fn refuse_what_passes_the_limit(rt: HostRuntime) -> Result<(), Fail> {
                 Charged(512, 8),
                 opens("h"),
                 Charged(512, 8),
-                Start(Written::html("i"), OverLimit, &[0], true, (1, 0)),
+                Start("i", OverLimit, &[0], true, (1, 0)),
                 Charged(512, 8),
-                Start(Written::html("j"), Failed, &[], true, (1, 0)),
+                Start("j", Failed, &[], true, (1, 0)),
                 Charged(512, 8),
                 End("c", &[zero; 6]),
             ],
@@ -389,19 +438,29 @@ fn repeat(
     }
 }
 
+/// Opens nine elements: eight slots are charged for the first eight.
+fn open_nine(rt: &impl Abort, alloc: Global, vm: &mut Machine, limiter: &mut SharedMemoryLimiter)
+    ensures { slot_bytes vm.new ≡ slot_bytes vm.old }
+{
+    let opens = Start("b", Unasked, &[], true, (1, 0));
+    repeat(rt, alloc, vm, limiter, &opens, 8, 8);
+    repeat(rt, alloc, vm, limiter, &opens, 1, 16);
+}
+
+fn open_and_close(rt: &impl Abort, alloc: Global, ast: Ast) {
+    let mut limiter = SharedMemoryLimiter::new(2048);
+    let mut vm = machine(rt, alloc, ast);
+    assert!(rt; vm.charged_slots() == 0);
+    open_nine(rt, alloc, &mut vm, &mut limiter);
+    repeat(rt, alloc, &mut vm, &mut limiter, &End("b", &[&[]]), 6, 16);
+    assert!(rt; (vm.charged_slots(), limiter.current_usage()) == (16, 1024));
+    release(rt, vm, &mut limiter);
+}
+
 #[test]
 fn charge_in_steps(rt: HostRuntime) -> Result<(), Fail> {
-    let alloc = rt.alloc();
-    let mut limiter = SharedMemoryLimiter::new(2048);
-    let mut vm = machine(&rt, alloc, selectors(alloc, &[("p", 0)])?);
-    assert!(rt; vm.charged_slots() == 0);
-    let opens = Start(Written::html("b"), Unasked, &[], true, (1, 0));
-    repeat(&rt, alloc, &mut vm, &mut limiter, &opens, 8, 8);
-    repeat(&rt, alloc, &mut vm, &mut limiter, &opens, 1, 16);
-    let closes = End("b", &[&[]]);
-    repeat(&rt, alloc, &mut vm, &mut limiter, &closes, 6, 16);
-    assert!(rt; (vm.charged_slots(), limiter.current_usage()) == (16, 1024));
-    release(&rt, vm, &mut limiter);
+    let ast = selectors(rt.alloc(), &[("p", 0)])?;
+    open_and_close(&rt, rt.alloc(), ast);
     Ok(())
 }
 
@@ -417,7 +476,7 @@ fn open_p(
     ensures { slot_bytes vm.new ≡ slot_bytes vm.old }
 {
     let ids = [match_id];
-    let step = Start(Written::html("p"), Unasked, &ids, true, (1, 0));
+    let step = Start("p", Unasked, &ids, true, (1, 0));
     take_step(rt, alloc, vm, limiter, Told::WhereAsked, &step);
     assert!(rt; limiter.current_usage() == bytes);
 }
@@ -453,44 +512,36 @@ fn write_into_data(rt: &impl Abort, vm: &mut Machine)
     assert!(rt; data.matched_ids.insert(9).is_ok());
 }
 
-/// Whether an end tag hands out the data that `write_into_data` wrote into, which had the id 0.
-fn hands_out_written(rt: &impl Abort, alloc: Global, vm: &mut Machine, name: &str) -> bool
-    ensures { slot_bytes vm.new ≡ slot_bytes vm.old }
-{
-    let closed = end(rt, alloc, vm, name);
-    hold(&closed, &[&[0, 9]]) && closed.iter().all(|data| data.value == 5)
+/// Whether data are those that `write_into_data` wrote into, which had the id 0.
+fn are_written(data: &[Numbered]) -> bool {
+    match data {
+        [data] => has_ids(data, &[0, 9]) && data.value == 5,
+        _ => false,
+    }
+}
+
+/// Opens a `p`, writes into its data, takes these steps inside it, and closes it.
+fn write_and_close(rt: &impl Abort, alloc: Global, ast: Ast, steps: &[Step<'_>]) {
+    let mut limiter = SharedMemoryLimiter::new(2048);
+    let mut vm = machine(rt, alloc, ast);
+    assert!(rt; vm.current_element_data_mut().is_none());
+    let first = Start("p", Unasked, &[0], true, (2, 0));
+    take_step(rt, alloc, &mut vm, &mut limiter, Told::WhereAsked, &first);
+    write_into_data(rt, &mut vm);
+    take_steps(rt, alloc, &mut vm, &mut limiter, Told::WhereAsked, steps);
+    assert!(rt; are_written(&end(alloc, &mut vm, "p").items));
+    release(rt, vm, &mut limiter);
 }
 
 #[test]
 fn keep_what_is_written_into_data(rt: HostRuntime) -> Result<(), Fail> {
-    let alloc = rt.alloc();
-    let mut limiter = SharedMemoryLimiter::new(2048);
-    let mut vm = machine(&rt, alloc, selectors(alloc, &[("*", 0), ("p p", 7)])?);
-    assert!(rt; vm.current_element_data_mut().is_none());
-    let first = Start(Written::html("p"), Unasked, &[0], true, (2, 0));
-    take_step(&rt, alloc, &mut vm, &mut limiter, Told::WhereAsked, &first);
-    write_into_data(&rt, &mut vm);
-    let second = Start(Written::html("p"), Unasked, &[0, 7], true, (3, 0));
-    take_step(&rt, alloc, &mut vm, &mut limiter, Told::WhereAsked, &second);
-    let inside = Start(Written::html("b"), Unasked, &[0], true, (3, 0));
-    take_step(&rt, alloc, &mut vm, &mut limiter, Told::WhereAsked, &inside);
-    take_step(
-        &rt,
-        alloc,
-        &mut vm,
-        &mut limiter,
-        Told::WhereAsked,
-        &End("b", &[&[0]]),
-    );
-    take_step(
-        &rt,
-        alloc,
-        &mut vm,
-        &mut limiter,
-        Told::WhereAsked,
-        &End("p", &[&[0, 7]]),
-    );
-    assert!(rt; hands_out_written(&rt, alloc, &mut vm, "p"));
-    release(&rt, vm, &mut limiter);
+    let ast = selectors(rt.alloc(), &[("*", 0), ("p p", 7)])?;
+    let steps = [
+        Start("p", Unasked, &[0, 7], true, (3, 0)),
+        Start("b", Unasked, &[0], true, (3, 0)),
+        End("b", &[&[0]]),
+        End("p", &[&[0, 7]]),
+    ];
+    write_and_close(&rt, rt.alloc(), ast, &steps);
     Ok(())
 }

@@ -31,31 +31,40 @@ fn gives(instruction: &Instruction, name: &[u8], branch: &ExecutionBranch) -> bo
     }
 }
 
+/// Whether an instruction gives its branch to one of the names.
+fn gives_once(instruction: &Instruction) -> bool {
+    let branch = &instruction.associated_branch;
+    gives(instruction, b"p", branch) != gives(instruction, b"b", branch)
+}
+
+fn all_give_once(instructions: &[Instruction]) -> bool {
+    for instruction in instructions {
+        if !gives_once(instruction) {
+            return false;
+        }
+    }
+    true
+}
+
 #[test]
 fn programs_are_compiled_and_run(rt: HostRuntime) -> Result<(), Fail> {
     let program = program(rt.alloc(), "p, b")?;
-    assert!(rt; program.instructions.len() == 2);
-    for instruction in &program.instructions {
-        let branch = &instruction.associated_branch;
-        let found = (
-            gives(instruction, b"p", branch),
-            gives(instruction, b"b", branch),
-        );
-        assert!(rt; found == (true, false) || found == (false, true));
-    }
+    assert!(rt; program.instructions.len() == 2 && all_give_once(&program.instructions));
     Ok(())
+}
+
+fn name_test(alloc: Global) -> Result<CompiledTest, AllocError> {
+    Ok(CompiledTest::Name(CompiledLocalNameExpr {
+        test: LocalNameExprTest::LocalName(LocalName::new(b"p").try_clone(alloc)?),
+    }))
 }
 
 /// A name's test, and a test that no element passes, compiled by hand.
 fn by_hand(alloc: Global) -> Result<CompiledPredicate, AllocError> {
-    let mut tests = Vec::new(alloc);
-    tests.push(CompiledTest::Name(CompiledLocalNameExpr {
-        test: LocalNameExprTest::LocalName(LocalName::new(b"p").try_clone(alloc)?),
-    }))?;
-    tests.push(CompiledTest::Attribute(CompiledAttributeExpr {
+    let never = CompiledTest::Attribute(CompiledAttributeExpr {
         test: AttributeExprTest::Never,
-    }))?;
-    Ok(CompiledPredicate::new(tests))
+    });
+    Ok(CompiledPredicate::new(vec![in alloc; name_test(alloc)?, never]?))
 }
 
 fn value(predicate: &CompiledPredicate, name: &[u8]) -> NameValue {
@@ -67,30 +76,40 @@ fn value(predicate: &CompiledPredicate, name: &[u8]) -> NameValue {
     predicate.by_names(&state, &LocalName::new(name))
 }
 
+/// Whether `p` may match the tests compiled by hand, and another name can't.
+fn are_decided(alloc: Global) -> Result<bool, AllocError> {
+    let predicate = by_hand(alloc)?;
+    let of_p = value(&predicate, b"p") == NameValue::Open;
+    Ok(of_p && value(&predicate, b"b") == NameValue::False)
+}
+
+/// Whether `*` becomes a test of names, which needs no places by type.
+fn is_of_names(alloc: Global) -> Result<bool, AllocError> {
+    let mut by_type = false;
+    let any = Test::Name(OnTagNameExpr::ExplicitAny).compile(alloc, &mut by_type)?;
+    Ok(matches!(any, CompiledTest::Name(_)) && !by_type)
+}
+
 #[test]
 fn tests_are_compiled(rt: HostRuntime) -> Result<(), Fail> {
-    let predicate = by_hand(rt.alloc())?;
-    assert!(rt; value(&predicate, b"p") == NameValue::Open);
-    assert!(rt; value(&predicate, b"b") == NameValue::False);
-    let mut by_type = false;
-    let any = Test::Name(OnTagNameExpr::ExplicitAny).compile(rt.alloc(), &mut by_type)?;
-    assert!(rt; matches!(any, CompiledTest::Name(_)) && !by_type);
+    assert!(rt; are_decided(rt.alloc())?);
+    assert!(rt; is_of_names(rt.alloc())?);
     Ok(())
 }
 
-/// Gives a name that isn't there a value, and answers where it stands.
+/// Gives a name that isn't there a value, and answers whether it stands in a slot then.
 fn put(
     alloc: Global,
     map: &mut NameMap<u8>,
     name: &[u8],
     value: u8,
-) -> Result<Option<NamePlace>, AllocError> {
+) -> Result<Option<bool>, AllocError> {
     let name = LocalName::new(name).into_owned(alloc)?;
     let Err(place) = map.search(&name) else {
         return Ok(None);
     };
     map.insert(place, name, value)?;
-    Ok(Some(place))
+    Ok(Some(is_in_a_slot(place)))
 }
 
 /// Whether a name stands in a slot, or at a place of the blocks.
@@ -108,13 +127,15 @@ fn found(map: &NameMap<u8>, name: &[u8]) -> Option<u8> {
     map.get(&LocalName::new(name)).copied()
 }
 
+/// Whether the first name stands in a slot, and the second one in the blocks.
+fn are_put(alloc: Global, map: &mut NameMap<u8>) -> Result<bool, AllocError> {
+    Ok(put(alloc, map, b"a1", 1)? == Some(true) && put(alloc, map, b"c1", 2)? == Some(false))
+}
+
 #[test]
 fn names_have_values(rt: HostRuntime) -> Result<(), Fail> {
     let mut map = NameMap::new(rt.alloc());
-    let first = put(rt.alloc(), &mut map, b"a1", 1)?;
-    let second = put(rt.alloc(), &mut map, b"c1", 2)?;
-    assert!(rt; first.map(is_in_a_slot) == Some(true));
-    assert!(rt; second.map(is_in_a_slot) == Some(false));
+    assert!(rt; are_put(rt.alloc(), &mut map)?);
     assert!(rt; found(&map, b"C1") == Some(2));
     Ok(())
 }

@@ -3,12 +3,12 @@
 ghost use Rattle.std.specs.Prelude.{◌≡◌, [], All};
 ghost use Rattle.lol_vm.specs.Views.{HasRangesInside};
 
+use crate::machines::are_reported;
 use lol_vm::{
-    Ast, Attributes, MatchInfo, Namespace, RunCause, RunStop, Selector, SharedMemoryLimiter,
-    TagEvent, TagReport, match_each_event, match_events,
+    Ast, Attributes, MatchInfo, Namespace, RunCause, RunStop, Selector, SelectorError,
+    SharedMemoryLimiter, TagEvent, TagReport, match_each_event, match_events,
 };
 use std::alloc::Global;
-use std::ops::Range;
 use std::process::Abort;
 use std::test::Fail;
 use test_kit::selectors;
@@ -24,17 +24,31 @@ fn start<'i>(name: &'i [u8], none: &'i Attributes) -> TagEvent<'i>
     }
 }
 
+/// Whether trees of two lists of selectors are the same.
+fn are_same(
+    alloc: Global,
+    texts: &[(&str, u32)],
+    others: &[(&str, u32)],
+) -> Result<bool, SelectorError> {
+    let ast = selectors(alloc, texts)?;
+    Ok(ast == selectors(alloc, others)?)
+}
+
+fn has_nodes(alloc: Global, texts: &[(&str, u32)], nodes: usize) -> Result<bool, SelectorError> {
+    Ok(selectors(alloc, texts)?.cumulative_node_count() == nodes)
+}
+
 #[test]
 fn adds_selectors(rt: HostRuntime) -> Result<(), Fail> {
-    let ast = selectors(rt.alloc(), &[("div p, *", 3), ("div > p", 3)])?;
-    assert!(rt; ast.cumulative_node_count() == 4);
-    assert!(rt; ast == selectors(rt.alloc(), &[("div p", 3), ("*, div>p", 3)])?);
-    assert!(rt; ast != selectors(rt.alloc(), &[("div p, *", 3), ("div p", 3)])?);
+    let texts = [("div p, *", 3), ("div > p", 3)];
+    assert!(rt; has_nodes(rt.alloc(), &texts, 4)?);
+    assert!(rt; are_same(rt.alloc(), &texts, &[("div p", 3), ("*, div>p", 3)])?);
+    assert!(rt; !are_same(rt.alloc(), &texts, &[("div p, *", 3), ("div p", 3)])?);
     Ok(())
 }
 
 /// What a machine with so many bytes at most reports of events. Nothing stays charged.
-pub(crate) fn reports_of(
+fn reports_of(
     rt: &impl Abort,
     alloc: Global,
     ast: Ast,
@@ -53,10 +67,13 @@ pub(crate) fn reports_of(
     }
 }
 
-#[test]
-fn answers_tags(rt: HostRuntime) -> Result<(), Fail> {
-    let alloc = rt.alloc();
-    let ast = selectors(alloc, &[("div p", 0), ("div > p", 1)])?;
+/// The selectors `div p` and `div > p`.
+fn inside_div(alloc: Global) -> Result<Ast, SelectorError> {
+    selectors(alloc, &[("div p", 0), ("div > p", 1)])
+}
+
+/// What is reported of `div`, `section`, `p` and the end of `div`.
+fn reports_of_nested(rt: &impl Abort, alloc: Global, ast: Ast) -> Result<Vec<TagReport>, Fail> {
     let none = Attributes::new(alloc);
     let events = [
         start(b"div", &none),
@@ -64,7 +81,13 @@ fn answers_tags(rt: HostRuntime) -> Result<(), Fail> {
         start(b"p", &none),
         TagEvent::End { name: b"DIV" },
     ];
-    let reports = reports_of(&rt, alloc, ast, false, &events, 512)?;
+    reports_of(rt, alloc, ast, false, &events, 512)
+}
+
+#[test]
+fn answers_tags(rt: HostRuntime) -> Result<(), Fail> {
+    let ast = inside_div(rt.alloc())?;
+    let reports = reports_of_nested(&rt, rt.alloc(), ast)?;
     expect_reports(&rt, &reports);
     Ok(())
 }
@@ -96,23 +119,21 @@ fn is_started(report: &TagReport, infos: &[MatchInfo], names: u64) -> bool {
     matched.as_slice() == infos && !*asked && is_tried
 }
 
-#[test]
-fn answers_children(rt: HostRuntime) -> Result<(), Fail> {
-    let alloc = rt.alloc();
-    let mut ast = Ast::new(alloc);
-    for (text, match_id) in [("div p", 0), ("div > p", 1)] {
-        ast.add_selector(&Selector::from_str(alloc, text)?, match_id)?;
-    }
+/// What is reported of `div`, `p` and the end of `div`.
+fn reports_of_child(rt: &impl Abort, alloc: Global, ast: Ast) -> Result<Vec<TagReport>, Fail> {
     let none = Attributes::new(alloc);
     let events = [
         start(b"div", &none),
         start(b"p", &none),
         TagEvent::End { name: b"div" },
     ];
-    let mut limiter = SharedMemoryLimiter::new(1_000_000);
-    let Ok(reports) = match_events(alloc, ast, 64, false, &events, &mut limiter) else {
-        return Err(Fail::from("out of memory"));
-    };
+    reports_of(rt, alloc, ast, false, &events, 1_000_000)
+}
+
+#[test]
+fn answers_children(rt: HostRuntime) -> Result<(), Fail> {
+    let ast = inside_div(rt.alloc())?;
+    let reports = reports_of_child(&rt, rt.alloc(), ast)?;
     expect_children(&rt, &reports);
     Ok(())
 }
@@ -124,13 +145,10 @@ fn expect_children(rt: &impl Abort, reports: &[TagReport]) {
     assert!(rt; closes(&reports[2], &[0, 1]));
 }
 
-/// Whether a report is of a start tag with these ids.
+/// Whether a report is of a start tag with these ids, and with content.
 fn has_ids(report: &TagReport, ids: &[u32]) -> bool {
     match report {
-        TagReport::Started { matched, .. } => matched
-            .iter()
-            .map(|found| found.match_id)
-            .eq(ids.iter().copied()),
+        TagReport::Started { matched, .. } => are_reported(matched, ids, true),
         TagReport::Dropped | TagReport::Ended { .. } => false,
     }
 }
@@ -162,10 +180,13 @@ fn keep_each(
     answered
 }
 
-#[test]
-fn hands_out_each_report(rt: HostRuntime) -> Result<(), Fail> {
-    let alloc = rt.alloc();
-    let ast = selectors(alloc, &[("div p", 0), ("div > p", 1)])?;
+/// The same of `div`, `section`, `p` and the end of `div`.
+fn keep_nested(
+    rt: &impl Abort,
+    alloc: Global,
+    ast: Ast,
+    reports: &mut Vec<TagReport>,
+) -> Result<(), RunStop> {
     let none = Attributes::new(alloc);
     let events = [
         start(b"div", &none),
@@ -173,19 +194,29 @@ fn hands_out_each_report(rt: HostRuntime) -> Result<(), Fail> {
         start(b"p", &none),
         TagEvent::End { name: b"DIV" },
     ];
-    let mut reports = Vec::new(alloc);
-    assert!(rt; keep_each(&rt, alloc, ast, &events, &mut reports) == Ok(()));
+    keep_each(rt, alloc, ast, &events, reports)
+}
+
+#[test]
+fn hands_out_each_report(rt: HostRuntime) -> Result<(), Fail> {
+    let ast = inside_div(rt.alloc())?;
+    let mut reports = Vec::new(rt.alloc());
+    assert!(rt; keep_nested(&rt, rt.alloc(), ast, &mut reports).is_ok());
     expect_reports(&rt, &reports);
     Ok(())
 }
 
 /// Whether reports are of start tags with so many matches.
 fn have_counts(reports: &[TagReport], counts: &[usize]) -> bool {
-    reports.len() == counts.len()
-        && reports
-            .iter()
-            .zip(counts)
-            .all(|(report, count)| has_count(report, *count))
+    if reports.len() != counts.len() {
+        return false;
+    }
+    for (report, count) in reports.iter().zip(counts) {
+        if !has_count(report, *count) {
+            return false;
+        }
+    }
+    true
 }
 
 fn has_count(report: &TagReport, count: usize) -> bool {
@@ -195,20 +226,30 @@ fn has_count(report: &TagReport, count: usize) -> bool {
     }
 }
 
+/// The same of nine `div`s.
+fn keep_nine(
+    rt: &impl Abort,
+    alloc: Global,
+    ast: Ast,
+    reports: &mut Vec<TagReport>,
+) -> Result<(), RunStop> {
+    let none = Attributes::new(alloc);
+    let events = [start(b"div", &none); 9];
+    keep_each(rt, alloc, ast, &events, reports)
+}
+
+/// The ninth of nine tags passes the limit.
+const AT_THE_NINTH: RunStop = RunStop {
+    event: 8,
+    cause: RunCause::MemoryLimitExceeded,
+};
+
 /// 512 bytes are eight elements of 64: the ninth is refused.
 #[test]
 fn hands_out_the_reports_before_a_refusal(rt: HostRuntime) -> Result<(), Fail> {
-    let alloc = rt.alloc();
-    let ast = selectors(alloc, &[("div div", 5)])?;
-    let none = Attributes::new(alloc);
-    let events = [start(b"div", &none); 9];
-    let mut reports = Vec::new(alloc);
-    let answered = keep_each(&rt, alloc, ast, &events, &mut reports);
-    let stop = RunStop {
-        event: 8,
-        cause: RunCause::MemoryLimitExceeded,
-    };
-    assert!(rt; answered == Err(stop));
+    let ast = selectors(rt.alloc(), &[("div div", 5)])?;
+    let mut reports = Vec::new(rt.alloc());
+    assert!(rt; keep_nine(&rt, rt.alloc(), ast, &mut reports) == Err(AT_THE_NINTH));
     assert!(rt; have_counts(&reports, &[0, 1, 1, 1, 1, 1, 1, 1]));
     Ok(())
 }
@@ -221,35 +262,48 @@ fn add_numbered(alloc: Global, ast: &mut Ast, id: u32) -> Result<(), Fail> {
     Ok(())
 }
 
+fn add_all_numbered(alloc: Global, ast: &mut Ast) -> Result<(), Fail> {
+    for id in 0..130 {
+        add_numbered(alloc, ast, id)?;
+    }
+    Ok(())
+}
+
 /// The selectors of the numbers from 0 to 129.
 fn numbered(alloc: Global) -> Result<Ast, Fail> {
     let mut ast = Ast::new(alloc);
-    for id in 0..130 {
-        add_numbered(alloc, &mut ast, id)?;
-    }
+    add_all_numbered(alloc, &mut ast)?;
     Ok(ast)
 }
 
-/// Whether a start tag matched exactly the selectors of these numbers but this one.
-fn has_numbers(report: &TagReport, numbers: Range<u32>, left_out: Option<u32>) -> bool {
+/// Whether a start tag matched exactly the selectors of the numbers below this one, but for one that is left out.
+fn has_numbers(report: &TagReport, end: u32, left_out: Option<u32>) -> bool {
     let TagReport::Started { matched, .. } = report else {
         return false;
     };
-    let ids = numbers.filter(|id| Some(*id) != left_out);
-    matched.iter().map(|found| found.match_id).eq(ids)
+    let mut number = 0u32;
+    for found in matched {
+        if left_out == Some(number) {
+            number = number.saturating_add(1);
+        }
+        if found.match_id != number {
+            return false;
+        }
+        number = number.saturating_add(1);
+    }
+    number == end
 }
 
 /// Expects the selectors of all numbers but 5 for `x` in `a5`, of all numbers for the later `x`, and none for `a5` and the last `div`.
 fn expect_numbers(rt: &impl Abort, reports: &[TagReport]) {
     assert!(rt; reports.len() == 6);
-    assert!(rt; has_numbers(&reports[0], 0..0, None) && has_numbers(&reports[4], 0..0, None));
-    assert!(rt; has_numbers(&reports[1], 0..130, Some(5)));
-    assert!(rt; has_numbers(&reports[5], 0..130, None));
+    assert!(rt; has_numbers(&reports[0], 0, None) && has_numbers(&reports[4], 0, None));
+    assert!(rt; has_numbers(&reports[1], 130, Some(5)));
+    assert!(rt; has_numbers(&reports[5], 130, None));
 }
 
-#[test]
-fn answers_where_many_ranges_are_active(rt: HostRuntime) -> Result<(), Fail> {
-    let alloc = rt.alloc();
+/// What is reported of `x` in `a5`, and of another inside two `div`s behind it.
+fn reports_of_many(rt: &impl Abort, alloc: Global, ast: Ast) -> Result<Vec<TagReport>, Fail> {
     let none = Attributes::new(alloc);
     let events = [
         start(b"a5", &none),
@@ -259,7 +313,13 @@ fn answers_where_many_ranges_are_active(rt: HostRuntime) -> Result<(), Fail> {
         start(b"div", &none),
         start(b"x", &none),
     ];
-    let reports = reports_of(&rt, alloc, numbered(alloc)?, false, &events, 512)?;
+    reports_of(rt, alloc, ast, false, &events, 512)
+}
+
+#[test]
+fn answers_where_many_ranges_are_active(rt: HostRuntime) -> Result<(), Fail> {
+    let ast = numbered(rt.alloc())?;
+    let reports = reports_of_many(&rt, rt.alloc(), ast)?;
     expect_numbers(&rt, &reports);
     Ok(())
 }

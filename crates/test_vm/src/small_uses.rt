@@ -8,26 +8,26 @@ use lol_examples::{
     set_value,
 };
 use lol_vm::{
-    Ast, Attributes, DenseHashSet, LocalName, NameMap, Namespace, PushError, SharedMemoryLimiter,
-    Stack, TagEvent, TagReport,
+    Ast, AttributeOutline, Attributes, Collected, DenseHashSet, LocalName, NameMap, Namespace,
+    PushError, SharedMemoryLimiter, Stack, TagEvent, TagReport,
 };
-use std::alloc::Global;
+use std::alloc::{AllocError, Global};
 use std::process::Abort;
 use std::test::Fail;
 use test_kit::Numbered;
 
+/// Whether these are outlines of an attribute without a value, and of one with a value.
+fn are_of_link(outlines: &[AttributeOutline]) -> bool {
+    match outlines {
+        [first, second] => first.value.is_none() && second.value.is_some(),
+        _ => false,
+    }
+}
+
 #[test]
 fn writes_a_link(rt: HostRuntime) -> Result<(), Fail> {
     let attributes = download_link(rt.alloc(), b"a b")?;
-    let aux_info = attributes.aux_info(false);
-    assert!(rt; aux_info.attr_buffer.len() == 2);
-    assert!(rt;
-        aux_info
-            .attr_buffer
-            .iter()
-            .map(|outline| outline.value.is_some())
-            .eq([false, true])
-    );
+    assert!(rt; are_of_link(attributes.aux_info(false).attr_buffer));
     Ok(())
 }
 
@@ -39,28 +39,43 @@ fn has_value(values: &NameMap<u32>, name: &[u8], value: u32) -> bool {
     }
 }
 
+fn set(values: &mut NameMap<u32>, name: &'static [u8], value: u32) -> Result<(), AllocError> {
+    set_value(values, LocalName::new(name), value)
+}
+
+fn set_all(values: &mut NameMap<u32>) -> Result<(), AllocError> {
+    set(values, b"p", 1)?;
+    set(values, b"h1", 5)?;
+    set(values, b"P", 2)
+}
+
 #[test]
 fn sets_values(rt: HostRuntime) -> Result<(), Fail> {
     let mut values = NameMap::new(rt.alloc());
-    set_value(&mut values, LocalName::new(b"p"), 1)?;
-    set_value(&mut values, LocalName::new(b"h1"), 5)?;
-    set_value(&mut values, LocalName::new(b"P"), 2)?;
+    set_all(&mut values)?;
     assert!(rt; has_value(&values, b"p", 2));
     assert!(rt; has_value(&values, b"H1", 5));
     assert!(rt; !has_value(&values, b"h2", 5));
     Ok(())
 }
 
+fn set_of(alloc: Global, ids: &[u32]) -> Result<DenseHashSet, AllocError> {
+    let mut set = DenseHashSet::new(alloc);
+    for id in ids {
+        set.insert(*id)?;
+    }
+    Ok(set)
+}
+
+fn joined(alloc: Global, first: &[u32], second: &[u32]) -> Result<Vec<u32>, AllocError> {
+    let first = set_of(alloc, first)?;
+    let second = set_of(alloc, second)?;
+    ids_of_both(alloc, &first, &second)
+}
+
 #[test]
 fn joins_sets(rt: HostRuntime) -> Result<(), Fail> {
-    let alloc = rt.alloc();
-    let mut first = DenseHashSet::new(alloc);
-    first.insert(40)?;
-    first.insert(7)?;
-    let mut second = DenseHashSet::new(alloc);
-    second.insert(3)?;
-    second.insert(40)?;
-    let ids = ids_of_both(alloc, &first, &second)?;
+    let ids = joined(rt.alloc(), &[40, 7], &[3, 40])?;
     assert!(rt; ids.as_slice() == [3, 7, 40].as_slice());
     Ok(())
 }
@@ -74,13 +89,25 @@ fn charges_eight_slots(rt: HostRuntime) {
     assert!(rt; matches!(push_once(rt.alloc(), &mut little), Err(PushError::Limit(_))));
 }
 
+fn sees(attributes: &Attributes, word: &[u8]) -> bool {
+    has_class(attributes.aux_info(false), word)
+}
+
 #[test]
 fn sees_words_of_a_class(rt: HostRuntime) -> Result<(), Fail> {
     let mut attributes = Attributes::new(rt.alloc());
     attributes.push(b"Class", Some(b"note  wide"))?;
-    assert!(rt; has_class(attributes.aux_info(false), b"wide"));
-    assert!(rt; !has_class(attributes.aux_info(false), b"wid"));
+    assert!(rt; sees(&attributes, b"wide") && !sees(&attributes, b"wid"));
     Ok(())
+}
+
+/// Opens a `p`.
+fn open_p(
+    alloc: Global,
+    stack: &mut Stack<Numbered>,
+    limiter: &mut SharedMemoryLimiter,
+) -> Result<(), PushError> {
+    open(alloc, stack, LocalName::new(b"p"), limiter)
 }
 
 #[test]
@@ -88,12 +115,10 @@ fn opens_elements(rt: HostRuntime) {
     let mut limiter = SharedMemoryLimiter::new(128);
     let mut stack: Stack<Numbered> = Stack::new(rt.alloc(), 16, false);
     for _i in 0..8 {
-        let name = LocalName::new(b"p");
-        assert!(rt; open(rt.alloc(), &mut stack, name, &mut limiter).is_ok());
+        assert!(rt; open_p(rt.alloc(), &mut stack, &mut limiter).is_ok());
     }
     assert!(rt; stack.items().len() == 8);
-    let name = LocalName::new(b"p");
-    let refused = open(rt.alloc(), &mut stack, name, &mut limiter);
+    let refused = open_p(rt.alloc(), &mut stack, &mut limiter);
     assert!(rt; matches!(refused, Err(PushError::Limit(_))));
     stack.discard();
 }
@@ -105,29 +130,51 @@ fn outer_links(alloc: Global) -> Result<Ast, Fail> {
     Ok(ast)
 }
 
+/// Whether a link to this is reported under exactly these ids.
+fn has_ids(alloc: Global, href: &[u8], wanted: &[u32]) -> Result<bool, Fail> {
+    let found = ids_of_link(alloc, outer_links(alloc)?, href);
+    Ok(matches!(&found, Ok(ids) if ids.as_slice() == wanted))
+}
+
 #[test]
 fn reports_a_link(rt: HostRuntime) -> Result<(), Fail> {
-    let alloc = rt.alloc();
-    let outer = ids_of_link(alloc, outer_links(alloc)?, b"https://a.example/");
-    assert!(rt; matches!(&outer, Ok(ids) if ids.as_slice() == [2, 4].as_slice()));
-    let inner = ids_of_link(alloc, outer_links(alloc)?, b"/a");
-    assert!(rt; matches!(&inner, Ok(ids) if ids.as_slice() == [2].as_slice()));
+    assert!(rt; has_ids(rt.alloc(), b"https://a.example/", &[2, 4])?);
+    assert!(rt; has_ids(rt.alloc(), b"/a", &[2])?);
     Ok(())
+}
+
+/// Keeps what is reported of events, and answers whether all are answered.
+fn reports(
+    alloc: Global,
+    events: &[TagEvent<'_>],
+    reports: &mut Collected<TagReport>,
+) -> Result<bool, Fail>
+    requires { All HasRangesInside events.now }
+{
+    let mut handler = |report: TagReport| {
+        reports.keep(report);
+    };
+    Ok(report_each(alloc, outer_links(alloc)?, events, &mut handler).is_ok())
+}
+
+/// How many reports are of end tags.
+fn count_ends(reports: &[TagReport]) -> usize {
+    let mut ends = 0usize;
+    for report in reports {
+        if matches!(report, TagReport::Ended { .. }) {
+            ends = ends.saturating_add(1);
+        }
+    }
+    ends
 }
 
 /// Whether so many reports come, of which so many are of end tags.
 fn has_reports(alloc: Global, events: &[TagEvent<'_>], wanted: (usize, usize)) -> Result<bool, Fail>
     requires { All HasRangesInside events.now }
 {
-    let (mut all, mut ends) = (0usize, 0usize);
-    let mut handler = |report: TagReport| {
-        all = all.saturating_add(1);
-        if matches!(report, TagReport::Ended { .. }) {
-            ends = ends.saturating_add(1);
-        }
-    };
-    let answered = report_each(alloc, outer_links(alloc)?, events, &mut handler);
-    Ok(answered.is_ok() && (all, ends) == wanted)
+    let mut reported = Collected::new(alloc);
+    let answered = reports(alloc, events, &mut reported)?;
+    Ok(answered && (reported.items.len(), count_ends(&reported.items)) == wanted)
 }
 
 #[test]

@@ -1,6 +1,6 @@
 use Rattle.std.proofs.Common.{◌≡◌}
 use Rattle.lol_vm.specs.Vms.{slot_bytes}
-use Rattle.test_vm.proofs.machine_model.agrees_with_selectors_matched_by_hand.Given as goal
+use Rattle.test_vm.proofs.machine_model.run.Given as goal
 
 abbrev pub invariant-loop-place : goal.invariant-loop-place
 invariant-loop-place g l = slot_bytes l.vm ≡ 64
