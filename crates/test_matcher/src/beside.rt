@@ -1,7 +1,8 @@
 //! An explaining matcher beside a matcher of the same texts.
 
 use crate::drawn::Drawn;
-use crate::pages::Selectors;
+use crate::matchers;
+use crate::pages::{Selectors, build, builder_of};
 use crate::told::{tell, tell_plainly};
 use lol_base::Attributes;
 use lol_explaining_matcher::ExplainingMatcher;
@@ -14,74 +15,72 @@ use test_kit::{Random, TagWord, attributes_of};
 /// How many pages are drawn. At every other one the bytes for open elements are bounded.
 const PAGES: u64 = 200;
 
-/// Two matchers of the same texts, with the same settings.
-#[derive(Drop)]
-struct Both {
-    explaining: ExplainingMatcher,
-    plain: Matcher,
-}
-
 fn explaining(
     alloc: Global,
     texts: Selectors<'_>,
     max_memory: usize,
 ) -> Result<ExplainingMatcher, Fail> {
-    let mut builder = ExplainingMatcher::builder(alloc);
+    let mut builder = builder_of(alloc, texts)?;
     builder.max_memory(max_memory);
-    for (text, id) in texts {
-        builder.add(*id, text)?;
-    }
-    match builder.build() {
-        Ok(matcher) => Ok(matcher),
-        Err(_) => Err(Fail::from("no matcher was built")),
-    }
+    build(builder)
 }
 
 fn plain(alloc: Global, texts: Selectors<'_>, max_memory: usize) -> Result<Matcher, Fail> {
-    let mut builder = Matcher::builder(alloc);
+    let mut builder = matchers::builder_of(alloc, texts)?;
     builder.max_memory(max_memory);
-    for (text, id) in texts {
-        builder.add(*id, text)?;
-    }
     Ok(builder.build()?)
 }
 
-impl Both {
-    fn of(alloc: Global, texts: Selectors<'_>, max_memory: usize) -> Result<Self, Fail> {
-        Ok(Both {
-            explaining: explaining(alloc, texts, max_memory)?,
-            plain: plain(alloc, texts, max_memory)?,
-        })
-    }
-
-    /// Tells both of a tag, and answers whether both answer the same.
-    fn answer_alike(&mut self, tag: &TagWord<'_>, attributes: &Attributes, at_hand: bool) -> bool {
-        let explained = tell(&mut self.explaining, tag, attributes, at_hand);
-        explained == tell_plainly(&mut self.plain, tag, attributes, at_hand)
-    }
-
-    /// Whether both show the same of the last tag.
-    fn show_alike(&self) -> bool {
-        self.explaining.matches() == self.plain.matches()
-            && self.explaining.tries() == self.plain.tries()
-            && self.explaining.has_opened() == self.plain.has_opened()
-            && self.explaining.has_failed() == self.plain.has_failed()
-    }
+/// Tells both of a tag, and answers whether both answer the same.
+fn answer_alike(
+    explaining: &mut ExplainingMatcher,
+    plain: &mut Matcher,
+    tag: &TagWord<'_>,
+    attributes: &Attributes,
+    at_hand: bool,
+) -> bool {
+    let explained = tell(explaining, tag, attributes, at_hand);
+    explained == tell_plainly(plain, tag, attributes, at_hand)
 }
 
-/// Expects the same of both after each tag. Answers whether a tag was refused.
+/// Whether both show the same of the last tag.
+fn show_alike(explaining: &ExplainingMatcher, plain: &Matcher) -> bool {
+    explaining.matches() == plain.matches()
+        && explaining.tries() == plain.tries()
+        && explaining.has_opened() == plain.has_opened()
+        && explaining.has_failed() == plain.has_failed()
+}
+
+/// Expects the same of both after each tag.
 fn compare(
     rt: &impl Abort,
     alloc: Global,
-    both: &mut Both,
+    explaining: &mut ExplainingMatcher,
+    plain: &mut Matcher,
+    at_hand: bool,
+    tags: &[TagWord<'_>],
+) -> Result<(), Fail> {
+    let attributes = attributes_of(alloc, tags)?;
+    for (tag, attributes) in tags.iter().zip(&attributes) {
+        let alike = answer_alike(explaining, plain, tag, attributes, at_hand);
+        assert!(rt; alike && show_alike(explaining, plain));
+    }
+    Ok(())
+}
+
+/// Expects the same of two matchers with the same settings. Answers whether a tag was refused.
+fn compare_texts(
+    rt: &impl Abort,
+    alloc: Global,
+    texts: Selectors<'_>,
+    max_memory: usize,
     at_hand: bool,
     tags: &[TagWord<'_>],
 ) -> Result<bool, Fail> {
-    let attributes = attributes_of(alloc, tags)?;
-    for (tag, attributes) in tags.iter().zip(&attributes) {
-        assert!(rt; both.answer_alike(tag, attributes, at_hand) && both.show_alike());
-    }
-    Ok(both.plain.has_failed())
+    let mut explaining = explaining(alloc, texts, max_memory)?;
+    let mut plain = plain(alloc, texts, max_memory)?;
+    compare(rt, alloc, &mut explaining, &mut plain, at_hand, tags)?;
+    Ok(plain.has_failed())
 }
 
 /// Draws a page of a seed, and compares. Answers whether a tag was refused.
@@ -96,8 +95,7 @@ fn compare_page(
     };
     let texts = drawn.selectors(alloc)?;
     let tags = drawn.tags(alloc)?;
-    let mut both = Both::of(alloc, &texts, max_memory)?;
-    compare(rt, alloc, &mut both, seed % 4 < 2, &tags)
+    compare_texts(rt, alloc, &texts, max_memory, seed % 4 < 2, &tags)
 }
 
 #[test]

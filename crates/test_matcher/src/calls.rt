@@ -1,6 +1,6 @@
 //! An explaining matcher, call by call.
 
-use crate::pages::{is_reason, matcher_of};
+use crate::pages::{build, builder_of, is_reason, matcher_of};
 use crate::told::{end, explain, finish, start, start_with};
 use lol_base::Attributes;
 use lol_explaining_matcher::{
@@ -77,13 +77,17 @@ fn is_told_again(matcher: &mut ExplainingMatcher, attributes: &Attributes) -> bo
         && is_explained(matcher, 7, &[3, 0])
 }
 
+fn is_explained_each_time(matcher: &mut ExplainingMatcher, attributes: &Attributes) -> bool {
+    asks_inside_main(matcher)
+        && is_finished_once(matcher, attributes)
+        && is_told_again(matcher, attributes)
+}
+
 #[test]
 fn goes_tag_by_tag(rt: HostRuntime) -> Result<(), Fail> {
     let attributes = written_attributes(rt.alloc(), &[("href", None)])?;
     let mut matcher = matcher_of(rt.alloc(), &[("main a[href]", 7)])?;
-    assert!(rt; asks_inside_main(&mut matcher));
-    assert!(rt; is_finished_once(&mut matcher, &attributes));
-    assert!(rt; is_told_again(&mut matcher, &attributes));
+    assert!(rt; is_explained_each_time(&mut matcher, &attributes));
     Ok(())
 }
 
@@ -105,15 +109,11 @@ fn counts_dropped_tags(rt: HostRuntime) -> Result<(), Fail> {
 
 /// A matcher that knows the names of ESI, and has no room for an element.
 fn without_room(alloc: Global) -> Result<ExplainingMatcher, Fail> {
-    let mut builder = ExplainingMatcher::builder(alloc);
+    let mut builder = builder_of(alloc, &[("esi\\:include, div", 3)])?;
     builder.max_memory(16);
     builder.element_bytes(16);
     builder.enable_esi_tags(true);
-    builder.add(3, "esi\\:include, div")?;
-    match builder.build() {
-        Ok(matcher) => Ok(matcher),
-        Err(_) => Err(Fail::from("no matcher was built")),
-    }
+    build(builder)
 }
 
 /// Whether `div` is refused, and nothing has reasons or is reported from then on.
@@ -125,12 +125,18 @@ fn is_refused(matcher: &mut ExplainingMatcher) -> bool {
         && refuses(matcher, "br", MatcherError::Failed)
 }
 
+/// Whether there is room for an element without content, and none for another one.
+fn has_no_room(matcher: &mut ExplainingMatcher) -> bool {
+    starts(matcher, "esi:include")
+        && is_explained(matcher, 3, &[0])
+        && !matcher.has_opened()
+        && is_refused(matcher)
+}
+
 #[test]
 fn has_no_reasons_after_a_refusal(rt: HostRuntime) -> Result<(), Fail> {
     let mut matcher = without_room(rt.alloc())?;
-    assert!(rt; starts(&mut matcher, "esi:include"));
-    assert!(rt; is_explained(&matcher, 3, &[0]) && !matcher.has_opened());
-    assert!(rt; is_refused(&mut matcher));
+    assert!(rt; has_no_room(&mut matcher));
     end(&mut matcher, "div");
     assert!(rt; is_unexplained(&matcher));
     Ok(())
@@ -138,9 +144,7 @@ fn has_no_reasons_after_a_refusal(rt: HostRuntime) -> Result<(), Fail> {
 
 /// A matcher whose open elements have numbers.
 fn with_values(alloc: Global) -> Result<ExplainingMatcher<u64>, Fail> {
-    let mut builder = ExplainingMatcher::builder(alloc);
-    builder.add(0, "div p")?;
-    match builder.build_with_values::<u64>() {
+    match builder_of(alloc, &[("div p", 0)])?.build_with_values::<u64>() {
         Ok(matcher) => Ok(matcher),
         Err(_) => Err(Fail::from("no matcher was built")),
     }
@@ -175,11 +179,18 @@ fn has_reason(matcher: &ExplainingMatcher<u64>, id: u32, witness: &[usize]) -> b
     }
 }
 
+/// Whether `p` is explained behind two elements, of which the inner one is closed and had the value 6.
+fn hands_out_a_value(matcher: &mut ExplainingMatcher<u64>) -> bool {
+    gives_value(matcher, 5)
+        && gives_value(matcher, 6)
+        && close(matcher, b"div") == 6
+        && opens(matcher, b"p")
+        && has_reason(matcher, 0, &[3, 0])
+}
+
 #[test]
 fn keeps_values(rt: HostRuntime) -> Result<(), Fail> {
     let mut matcher = with_values(rt.alloc())?;
-    assert!(rt; gives_value(&mut matcher, 5) && gives_value(&mut matcher, 6));
-    assert!(rt; close(&mut matcher, b"div") == 6);
-    assert!(rt; opens(&mut matcher, b"p") && has_reason(&matcher, 0, &[3, 0]));
+    assert!(rt; hands_out_a_value(&mut matcher));
     Ok(())
 }

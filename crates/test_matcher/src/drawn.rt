@@ -4,7 +4,7 @@ use crate::pages::{Selectors, is_reason, matcher_of, reports_ids_of};
 use crate::told::{explain, is_told};
 use lol_base::Attributes;
 use lol_explaining_matcher::{ExplainingMatcher, Reason};
-use lol_vm::{Selector, SelectorError};
+use lol_vm::{Ast, Selector, SelectorError};
 use plain_matcher::{PlainReason, PlainText, events_of, plain_reasons};
 use std::alloc::{AllocError, Global};
 use std::process::Abort;
@@ -81,14 +81,26 @@ fn plain_texts<'p>(
 /// The reasons by the definitions.
 fn plainly(
     alloc: Global,
-    texts: Selectors<'_>,
+    ast: &Ast,
     plain_texts: &[PlainText<'_>],
     tags: &[TagWord<'_>],
     attributes: &[Attributes],
-) -> Result<Vec<Vec<PlainReason>>, Fail> {
-    let ast = selectors(alloc, texts)?;
+) -> Result<Vec<Vec<PlainReason>>, AllocError> {
     let events = events_of(alloc, tags, attributes)?;
-    Ok(plain_reasons(alloc, &ast, false, plain_texts, &events)?)
+    plain_reasons(alloc, ast, false, plain_texts, &events)
+}
+
+/// The same for texts that aren't read yet.
+fn plainly_of(
+    alloc: Global,
+    texts: Selectors<'_>,
+    tags: &[TagWord<'_>],
+    attributes: &[Attributes],
+) -> Result<Vec<Vec<PlainReason>>, SelectorError> {
+    let ast = selectors(alloc, texts)?;
+    let parsed = parsed(alloc, texts)?;
+    let plain_texts = plain_texts(alloc, &parsed, texts)?;
+    Ok(plainly(alloc, &ast, &plain_texts, tags, attributes)?)
 }
 
 fn is_plain(reason: &Reason, plain: &PlainReason) -> bool {
@@ -96,23 +108,25 @@ fn is_plain(reason: &Reason, plain: &PlainReason) -> bool {
 }
 
 fn are_plain(told: &[Reason], plain: &[PlainReason]) -> bool {
-    told.len() == plain.len()
-        && told
-            .iter()
-            .zip(plain)
-            .all(|(one, other)| is_plain(one, other))
+    if told.len() != plain.len() {
+        return false;
+    }
+    for (one, other) in told.iter().zip(plain) {
+        if !is_plain(one, other) {
+            return false;
+        }
+    }
+    true
 }
 
-/// Expects of the last tag these reasons, and the report of their ids. Answers how many there are.
-fn expect_plain(
-    rt: &impl Abort,
+/// Whether the last tag has these reasons, and is reported under their ids.
+fn is_explained(
     alloc: Global,
     matcher: &ExplainingMatcher,
     plain: &[PlainReason],
-) -> Result<usize, Fail> {
+) -> Result<bool, AllocError> {
     let reasons = explain(matcher)?;
-    assert!(rt; are_plain(&reasons, plain) && reports_ids_of(alloc, matcher, &reasons)?);
-    Ok(reasons.len())
+    Ok(are_plain(&reasons, plain) && reports_ids_of(alloc, matcher, &reasons)?)
 }
 
 /// Expects these reasons after each tag. Answers how many there are.
@@ -128,7 +142,8 @@ fn compare_tags(
     let mut count = 0usize;
     for ((tag, attributes), plain) in tags.iter().zip(attributes).zip(plain) {
         assert!(rt; is_told(matcher, tag, attributes, at_hand));
-        count = count.saturating_add(expect_plain(rt, alloc, matcher, plain)?);
+        assert!(rt; is_explained(alloc, matcher, plain)?);
+        count = count.saturating_add(plain.len());
     }
     Ok(count)
 }
@@ -142,9 +157,7 @@ fn compare(
     tags: &[TagWord<'_>],
 ) -> Result<usize, Fail> {
     let attributes = attributes_of(alloc, tags)?;
-    let parsed = parsed(alloc, texts)?;
-    let plain_texts = plain_texts(alloc, &parsed, texts)?;
-    let plain = plainly(alloc, texts, &plain_texts, tags, &attributes)?;
+    let plain = plainly_of(alloc, texts, tags, &attributes)?;
     let mut matcher = matcher_of(alloc, texts)?;
     compare_tags(
         rt,

@@ -2,11 +2,12 @@
 
 use crate::pages::{Selectors, is_reason, matcher_of, reports_ids_of};
 use crate::told::{explain, is_told};
+use lol_base::Attributes;
 use lol_explaining_matcher::{ExplainingMatcher, Reason};
 use std::alloc::{AllocError, Global};
 use std::process::Abort;
 use std::test::Fail;
-use test_kit::{attributes_of, words_of};
+use test_kit::{TagWord, attributes_of, words_of};
 
 /// An id, the numbers of a text and of an item, and a witness.
 type Expected = (u32, usize, usize, &'static [usize]);
@@ -74,13 +75,36 @@ const ROWS: [Row; 11] = [
 ];
 
 fn are_expected(reasons: &[Reason], expected: &[Expected]) -> bool {
-    reasons.len() == expected.len()
-        && reasons.iter().zip(expected).all(|(reason, (id, text, item, witness))| {
-            is_reason(reason, *id, *text, *item, witness)
-        })
+    if reasons.len() != expected.len() {
+        return false;
+    }
+    for (reason, expected) in reasons.iter().zip(expected) {
+        if !is_one(reason, expected) {
+            return false;
+        }
+    }
+    true
+}
+
+fn is_one(reason: &Reason, expected: &Expected) -> bool {
+    let (id, text, item, witness) = *expected;
+    is_reason(reason, id, text, item, witness)
 }
 
 /// Tells of all the tags, and answers whether each was answered.
+fn are_answered(
+    matcher: &mut ExplainingMatcher,
+    at_hand: bool,
+    tags: &[TagWord<'_>],
+    attributes: &[Attributes],
+) -> bool {
+    let mut answered = true;
+    for (tag, attributes) in tags.iter().zip(attributes) {
+        answered &= is_told(matcher, tag, attributes, at_hand);
+    }
+    answered
+}
+
 fn are_told(
     alloc: Global,
     matcher: &mut ExplainingMatcher,
@@ -89,11 +113,7 @@ fn are_told(
 ) -> Result<bool, AllocError> {
     let words = words_of(alloc, tags)?;
     let attributes = attributes_of(alloc, &words)?;
-    let mut told = true;
-    for (tag, attributes) in words.iter().zip(&attributes) {
-        told &= is_told(matcher, tag, attributes, at_hand);
-    }
-    Ok(told)
+    Ok(are_answered(matcher, at_hand, &words, &attributes))
 }
 
 /// Whether the last tag has these reasons, and is reported under their ids.
@@ -101,21 +121,32 @@ fn is_expected(
     alloc: Global,
     matcher: &ExplainingMatcher,
     expected: &[Expected],
-) -> Result<bool, Fail> {
+) -> Result<bool, AllocError> {
     let reasons = explain(matcher)?;
     Ok(are_expected(&reasons, expected) && reports_ids_of(alloc, matcher, &reasons)?)
+}
+
+/// Whether all tags are answered, and the last one has these reasons.
+fn explains(
+    alloc: Global,
+    matcher: &mut ExplainingMatcher,
+    at_hand: bool,
+    tags: &str,
+    expected: &[Expected],
+) -> Result<bool, AllocError> {
+    Ok(are_told(alloc, matcher, at_hand, tags)? && is_expected(alloc, matcher, expected)?)
 }
 
 fn last_has(alloc: Global, at_hand: bool, row: &Row) -> Result<bool, Fail> {
     let (selectors, tags, expected) = *row;
     let mut matcher = matcher_of(alloc, selectors)?;
-    Ok(are_told(alloc, &mut matcher, at_hand, tags)? && is_expected(alloc, &matcher, expected)?)
+    Ok(explains(alloc, &mut matcher, at_hand, tags, expected)?)
 }
 
 fn check(rt: &impl Abort, alloc: Global, rows: &[Row]) -> Result<(), Fail> {
     for (number, row) in rows.iter().enumerate() {
-        assert!(rt; last_has(alloc, false, row)?, "row {number}");
-        assert!(rt; last_has(alloc, true, row)?, "row {number}");
+        let asked = last_has(alloc, false, row)?;
+        assert!(rt; last_has(alloc, true, row)? && asked, "row {number}");
     }
     Ok(())
 }

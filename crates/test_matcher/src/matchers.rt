@@ -14,7 +14,7 @@ fn add(builder: &mut MatcherBuilder, id: u32, text: &str) -> Result<(), AddError
 }
 
 /// Selectors under ids.
-fn builder_of(alloc: Global, texts: &[(&str, u32)]) -> Result<MatcherBuilder, AddError> {
+pub(crate) fn builder_of(alloc: Global, texts: &[(&str, u32)]) -> Result<MatcherBuilder, AddError> {
     let mut builder = Matcher::builder(alloc);
     for (text, id) in texts {
         add(&mut builder, *id, text)?;
@@ -156,14 +156,21 @@ fn is_refused(matcher: &mut Matcher, none: &Attributes) -> bool {
         && finish(matcher, none, false) == Err(MatcherError::Failed)
 }
 
+/// Whether eight `div`s are reported.
+fn opens_eight(matcher: &mut Matcher, none: &Attributes) -> bool {
+    for _ in 0..8 {
+        if !reports_asked(matcher, ("div", Namespace::Html), none, false, &[0]) {
+            return false;
+        }
+    }
+    true
+}
+
 #[test]
 fn refuses_past_the_limit(rt: HostRuntime) -> Result<(), Fail> {
     let none = Attributes::new(rt.alloc());
     let mut matcher = matcher(rt.alloc(), &[("div", 0), (".a", 1)], 512, 64)?;
-    for _ in 0..8 {
-        assert!(rt; reports_asked(&mut matcher, ("div", Namespace::Html), &none, false, &[0]));
-    }
-    assert!(rt; is_refused(&mut matcher, &none));
+    assert!(rt; opens_eight(&mut matcher, &none) && is_refused(&mut matcher, &none));
     end(&mut matcher, "div");
     assert!(rt; matcher.has_failed());
     Ok(())
@@ -197,16 +204,22 @@ fn refuses_outside(matcher: &mut Matcher, attributes: &AttributeBuffer) -> bool 
     finish_with(matcher, outside) == Err(MatcherError::OutsideInput)
 }
 
+/// Whether no tag is refused for such attributes but one that waits, which still waits then, and is finished with others.
+fn keeps_waiting(matcher: &mut Matcher, outside: &AttributeBuffer, inside: &Attributes) -> bool {
+    refuses_outside(matcher, outside)
+        && waits(matcher, "p", Namespace::Html)
+        && refuses_outside(matcher, outside)
+        && finish(matcher, inside, false).is_ok()
+        && has_ids(matcher, &[0])
+        && !matcher.has_failed()
+}
+
 #[test]
 fn keeps_a_tag_whose_ranges_lie_outside(rt: HostRuntime) -> Result<(), Fail> {
     let outside = past_the_end(rt.alloc())?;
     let inside = written(rt.alloc(), b"a", Some(b"b"))?;
     let mut matcher = matcher(rt.alloc(), &[("[a=b]", 0)], 100_000, 64)?;
-    assert!(rt; refuses_outside(&mut matcher, &outside));
-    assert!(rt; waits(&mut matcher, "p", Namespace::Html));
-    assert!(rt; refuses_outside(&mut matcher, &outside));
-    assert!(rt; finish(&mut matcher, &inside, false).is_ok());
-    assert!(rt; has_ids(&matcher, &[0]) && !matcher.has_failed());
+    assert!(rt; keeps_waiting(&mut matcher, &outside, &inside));
     Ok(())
 }
 
@@ -243,15 +256,21 @@ fn is_void(matcher: &mut Matcher, name: &str) -> bool {
     reports(matcher, name, &[]) && reports(matcher, "b", &[])
 }
 
+/// Whether void names and foreign elements that close themselves have nothing inside.
+fn knows_void_names(matcher: &mut Matcher, none: &Attributes) -> bool {
+    is_void(matcher, "BR")
+        && is_void(matcher, "esi:include")
+        && reports_asked(matcher, ("svg", Namespace::Svg), none, false, &[])
+        && reports_asked(matcher, ("rect", Namespace::Svg), none, true, &[1])
+        && reports(matcher, "b", &[])
+}
+
 #[test]
 fn knows_namespaces_and_void_names(rt: HostRuntime) -> Result<(), Fail> {
     let none = Attributes::new(rt.alloc());
     let texts = [("br b, rect b, esi\\:include b", 0), ("svg > rect", 1)];
     let mut matcher = with_esi(rt.alloc(), &texts)?;
-    assert!(rt; is_void(&mut matcher, "BR") && is_void(&mut matcher, "esi:include"));
-    assert!(rt; reports_asked(&mut matcher, ("svg", Namespace::Svg), &none, false, &[]));
-    assert!(rt; reports_asked(&mut matcher, ("rect", Namespace::Svg), &none, true, &[1]));
-    assert!(rt; reports(&mut matcher, "b", &[]));
+    assert!(rt; knows_void_names(&mut matcher, &none));
     Ok(())
 }
 
@@ -270,15 +289,25 @@ fn tries_in_div(matcher: &mut Matcher, names: u64) -> bool {
         && reports(matcher, "p", &[0])
 }
 
+/// Whether so many nodes are tried with rows from so many nodes on.
+fn tries_from(alloc: Global, fewest: usize, names: u64) -> Result<bool, Fail> {
+    let mut matcher = with_rows_from(alloc, fewest)?;
+    Ok(tries_in_div(&mut matcher, names))
+}
+
+/// Whether a matcher with rows spares all nodes.
+fn spares_all(alloc: Global) -> Result<bool, Fail> {
+    let mut builder = builder_of(alloc, &[("div p", 0)])?;
+    builder.with_rows();
+    Ok(tries_in_div(&mut builder.build()?, 0))
+}
+
 #[test]
 fn spares_nodes_from_so_many_on(rt: HostRuntime) -> Result<(), Fail> {
-    for (fewest, names) in [(0, 0), (3, 0), (4, 3)] {
-        let mut matcher = with_rows_from(rt.alloc(), fewest)?;
-        assert!(rt; tries_in_div(&mut matcher, names));
-    }
-    let mut builder = builder_of(rt.alloc(), &[("div p", 0)])?;
-    builder.with_rows();
-    assert!(rt; tries_in_div(&mut builder.build()?, 0));
+    assert!(rt; tries_from(rt.alloc(), 0, 0)?);
+    assert!(rt; tries_from(rt.alloc(), 3, 0)?);
+    assert!(rt; tries_from(rt.alloc(), 4, 3)?);
+    assert!(rt; spares_all(rt.alloc())?);
     Ok(())
 }
 
@@ -344,17 +373,25 @@ fn takes_values(matcher: &mut Matcher<u64>) -> bool {
         && replaces(matcher, Some(9), Some(8))
 }
 
+/// Whether four elements take values, of which those with content are handed out where `div` ends.
+fn hands_out_all(matcher: &mut Matcher<u64>, handed_out: &mut HandedOut) -> bool {
+    if matcher.has_opened() || !replaces(matcher, Some(1), Some(1)) || !takes_values(matcher) {
+        return false;
+    }
+    close(matcher, "b", handed_out);
+    if handed_out.values.len() > 0 || matcher.has_opened() {
+        return false;
+    }
+    close(matcher, "div", handed_out);
+    handed_out.has_values(&[Some(7), None, Some(9)])
+}
+
 #[test]
 fn hands_out_values_of_closed_elements(rt: HostRuntime) -> Result<(), Fail> {
     let builder = builder_of(rt.alloc(), &[("div", 3), ("div p, br", 4)])?;
     let mut matcher = numbering(builder)?;
-    assert!(rt; !matcher.has_opened() && replaces(&mut matcher, Some(1), Some(1)));
-    assert!(rt; takes_values(&mut matcher));
     let mut handed_out = HandedOut::new(rt.alloc());
-    close(&mut matcher, "b", &mut handed_out);
-    assert!(rt; handed_out.values.len() == 0 && !matcher.has_opened());
-    close(&mut matcher, "div", &mut handed_out);
-    assert!(rt; handed_out.has_values(&[Some(7), None, Some(9)]));
+    assert!(rt; hands_out_all(&mut matcher, &mut handed_out));
     assert!(rt; handed_out.ids.as_slice() == [3, 4].as_slice());
     Ok(())
 }
@@ -366,14 +403,21 @@ fn has_no_room(matcher: &mut Matcher<u64>) -> bool {
         && !matcher.has_opened()
 }
 
+/// Whether eight elements are opened, and take the numbers from 0 on.
+fn takes_eight(matcher: &mut Matcher<u64>) -> bool {
+    for value in 0..8 {
+        if !opens(matcher, "p", true) || !replaces(matcher, Some(value), None) {
+            return false;
+        }
+    }
+    true
+}
+
 #[test]
 fn hands_out_values_after_a_refusal(rt: HostRuntime) -> Result<(), Fail> {
     let builder = limited_builder(rt.alloc(), &[("p", 0)], 128, 16)?;
     let mut matcher = numbering(builder)?;
-    for value in 0..8 {
-        assert!(rt; opens(&mut matcher, "p", true) && replaces(&mut matcher, Some(value), None));
-    }
-    assert!(rt; has_no_room(&mut matcher));
+    assert!(rt; takes_eight(&mut matcher) && has_no_room(&mut matcher));
     let mut handed_out = HandedOut::new(rt.alloc());
     close(&mut matcher, "p", &mut handed_out);
     close(&mut matcher, "p", &mut handed_out);
@@ -399,33 +443,58 @@ fn without_refused(rt: &impl Abort, alloc: Global) -> Result<Matcher, Fail> {
     Ok(builder.build()?)
 }
 
+fn says_why(alloc: Global, wanted: &str) -> Result<bool, AllocError> {
+    let text = format!(in alloc; "{DANGLING}")?;
+    Ok(text.as_str() == wanted)
+}
+
 #[test]
 fn leaves_out_a_text_that_is_refused(rt: HostRuntime) -> Result<(), Fail> {
-    let text = format!(in rt.alloc(); "{DANGLING}")?;
-    assert!(rt; text.as_str() == "Dangling combinator in selector. (item 1, byte 8)");
+    let wanted = "Dangling combinator in selector. (item 1, byte 8)";
+    assert!(rt; says_why(rt.alloc(), wanted)?);
     let mut matcher = without_refused(&rt, rt.alloc())?;
     assert!(rt; reports(&mut matcher, "div", &[]) && reports(&mut matcher, "p", &[1]));
     Ok(())
 }
 
-fn says(rt: &impl Abort, alloc: Global, error: MatcherError, wanted: &str) -> Result<(), Fail> {
+/// What the errors say.
+const SAID: [(MatcherError, &str); 6] = [
+    (
+        MatcherError::MemoryLimitExceeded,
+        "the memory limit would have been passed: too many elements are open at a time",
+    ),
+    (MatcherError::Memory, "out of memory"),
+    (
+        MatcherError::CounterFull,
+        "an element has as many children as can be counted",
+    ),
+    (
+        MatcherError::Failed,
+        "an earlier start tag was refused: no other is answered",
+    ),
+    (
+        MatcherError::NotAsked,
+        "no start tag waits for its attributes",
+    ),
+    (
+        MatcherError::OutsideInput,
+        "the range of an attribute's name or value lies outside the input",
+    ),
+];
+
+fn says(alloc: Global, error: MatcherError, wanted: &str) -> Result<bool, AllocError> {
     let text = format!(in alloc; "{error}")?;
-    assert!(rt; text.as_str() == wanted, "{wanted}");
+    Ok(text.as_str() == wanted)
+}
+
+fn all_say(rt: &impl Abort, alloc: Global, rows: &[(MatcherError, &str)]) -> Result<(), Fail> {
+    for (error, wanted) in rows {
+        assert!(rt; says(alloc, *error, wanted)?, "{wanted}");
+    }
     Ok(())
 }
 
 #[test]
 fn says_why_a_tag_is_refused(rt: HostRuntime) -> Result<(), Fail> {
-    let alloc = rt.alloc();
-    let limit = "the memory limit would have been passed: too many elements are open at a time";
-    says(&rt, alloc, MatcherError::MemoryLimitExceeded, limit)?;
-    says(&rt, alloc, MatcherError::Memory, "out of memory")?;
-    let counter = "an element has as many children as can be counted";
-    says(&rt, alloc, MatcherError::CounterFull, counter)?;
-    let failed = "an earlier start tag was refused: no other is answered";
-    says(&rt, alloc, MatcherError::Failed, failed)?;
-    let waits = "no start tag waits for its attributes";
-    says(&rt, alloc, MatcherError::NotAsked, waits)?;
-    let outside = "the range of an attribute's name or value lies outside the input";
-    says(&rt, alloc, MatcherError::OutsideInput, outside)
+    all_say(&rt, rt.alloc(), &SAID)
 }

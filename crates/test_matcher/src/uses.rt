@@ -5,8 +5,9 @@ ghost use Rattle.lol_matcher.specs.Answering.{reported_in};
 ghost use Rattle.lol_matcher.specs.Noted.{handed};
 
 use lol_matcher::{Attributes, AuxStartTagInfo, Matcher, MatcherError, Namespace};
-use std::alloc::Global;
+use std::alloc::{AllocError, Global};
 use std::test::Fail;
+use test_kit::written_attributes;
 
 /// Whether a start tag is reported under some id.
 pub fn is_reported(
@@ -42,13 +43,20 @@ fn for_links(alloc: Global) -> Result<Matcher, Fail> {
     Ok(builder.build()?)
 }
 
+/// Whether links alone are reported, and only with `href`.
+fn reports_links(alloc: Global, matcher: &mut Matcher) -> Result<bool, AllocError> {
+    let without = Attributes::new(alloc);
+    let with = written_attributes(alloc, &[("href", None)])?;
+    Ok(
+        reports(matcher, "a", &without) == Ok(false)
+            && reports(matcher, "a", &with) == Ok(true)
+            && reports(matcher, "p", &with) == Ok(false),
+    )
+}
+
 #[test]
 fn tells_whether_a_tag_is_reported(rt: HostRuntime) -> Result<(), Fail> {
-    let mut attributes = Attributes::new(rt.alloc());
     let mut matcher = for_links(rt.alloc())?;
-    assert!(rt; reports(&mut matcher, "a", &attributes) == Ok(false));
-    attributes.push(b"href", None)?;
-    assert!(rt; reports(&mut matcher, "a", &attributes) == Ok(true));
-    assert!(rt; reports(&mut matcher, "p", &attributes) == Ok(false));
+    assert!(rt; reports_links(rt.alloc(), &mut matcher)?);
     Ok(())
 }
