@@ -5,7 +5,8 @@ ghost use Rattle.lol_vm.specs.Views.{HasRangesInside};
 
 use lol_base::Attributes;
 use lol_vm::{
-    Ast, RunStop, SharedMemoryLimiter, TagEvent, TagReport, match_each_event, match_events,
+    Ast, MatchInfo, RunStop, SharedMemoryLimiter, TagEvent, TagReport, match_each_event,
+    match_events,
 };
 use plain_matcher::events_of;
 use std::alloc::{AllocError, Global};
@@ -109,14 +110,32 @@ pub(crate) fn numbered<'t>(
 /// Whether a report is of a start tag under these ids, with content or without, or of an end tag that closes these elements.
 pub(crate) fn tells(report: &TagReport, numbers: &[usize], content: bool) -> bool {
     match report {
-        TagReport::Started { matched, .. } => {
-            matched.iter().all(|found| found.with_content == content)
-                && matched
-                    .iter()
-                    .map(|found| found.match_id as usize)
-                    .eq(numbers.iter().copied())
-        }
+        TagReport::Started { matched, .. } => are_reported(matched, numbers, content),
         TagReport::Dropped => numbers.is_empty(),
         TagReport::Ended { closed } => closed.as_slice() == numbers,
     }
+}
+
+fn are_reported(infos: &[MatchInfo], ids: &[usize], content: bool) -> bool {
+    if infos.len() != ids.len() {
+        return false;
+    }
+    for (info, id) in infos.iter().zip(ids) {
+        if info.match_id as usize != *id || info.with_content != content {
+            return false;
+        }
+    }
+    true
+}
+
+/// How many reports tell these numbers, from the first on, all with content.
+pub(crate) fn count_told(told: &[TagReport], wanted: &[&[usize]]) -> usize {
+    let mut count = 0usize;
+    for (report, numbers) in told.iter().zip(wanted) {
+        if !tells(report, numbers, true) {
+            return count;
+        }
+        count = count.saturating_add(1);
+    }
+    count
 }

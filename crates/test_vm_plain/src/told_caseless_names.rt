@@ -21,7 +21,7 @@ const EXACT: &str =
     rels re tex background cite span";
 
 /// What the value `text` is compared with: `TEXT` without a flag, with the flag `s` and with the flag `i`, and `text`.
-const COMPARED: [&str; 4] = ["TEXT", "TEXT s", "TEXT i", "text"];
+const COMPARED: &str = "TEXT,TEXT s,TEXT i,text";
 
 fn text_of(alloc: Global, name: &str, compared: &str) -> Result<String, AllocError> {
     format!(in alloc; "[{name}={compared}]")
@@ -30,7 +30,7 @@ fn text_of(alloc: Global, name: &str, compared: &str) -> Result<String, AllocErr
 /// A text for each comparison.
 fn texts_of(alloc: Global, name: &str) -> Result<Vec<String>, AllocError> {
     let mut texts = Vec::new(alloc);
-    for compared in &COMPARED {
+    for compared in COMPARED.split(',') {
         texts.push(text_of(alloc, name, compared)?)?;
     }
     Ok(texts)

@@ -1,6 +1,6 @@
 //! Whole runs, told to the machine.
 
-use crate::told::{reports, stop_of, tells};
+use crate::told::{count_told, reports, stop_of};
 use lol_vm::{RunCause, RunStop, TagReport};
 use std::alloc::Global;
 use std::process::Abort;
@@ -126,9 +126,8 @@ const ROWS: [Row; 9] = [
 
 fn expect_told(rt: &impl Abort, told: &[TagReport], tags: &str, wanted: &[&[usize]]) {
     assert!(rt; told.len() == wanted.len(), "{tags}");
-    for (place, (report, numbers)) in told.iter().zip(wanted).enumerate() {
-        assert!(rt; tells(report, numbers, true), "tag {place} of {tags}");
-    }
+    let count = count_told(told, wanted);
+    assert!(rt; count == told.len(), "tag {count} of {tags}");
 }
 
 fn check(rt: &impl Abort, alloc: Global, rows: &[Row]) -> Result<(), Fail> {
@@ -150,9 +149,15 @@ fn was_asked(report: &TagReport) -> bool {
 
 /// Whether the attributes of each tag were asked for or not, as it is said.
 fn were_asked(told: &[TagReport], wanted: &[bool]) -> bool {
-    told.iter()
-        .map(|report| was_asked(report))
-        .eq(wanted.iter().copied())
+    if told.len() != wanted.len() {
+        return false;
+    }
+    for (report, wanted) in told.iter().zip(wanted) {
+        if was_asked(report) != *wanted {
+            return false;
+        }
+    }
+    true
 }
 
 /// Attributes are asked for where a node needs them whose left part matches, and a tag whose attributes aren't asked for isn't dropped.
@@ -189,13 +194,21 @@ fn stops_at(
     Ok(stop_of(rt, alloc, maximum, 100, depth)? == stop)
 }
 
-#[test]
-fn stop_where_a_limit_is_passed(rt: HostRuntime) -> Result<(), Fail> {
-    for (maximum, depth, refused) in &LIMITS {
+fn check_limits(
+    rt: &impl Abort,
+    alloc: Global,
+    limits: &[(usize, usize, Option<usize>)],
+) -> Result<(), Fail> {
+    for (maximum, depth, refused) in limits {
         assert!(rt;
-            stops_at(&rt, rt.alloc(), *maximum, *depth, *refused)?,
+            stops_at(rt, alloc, *maximum, *depth, *refused)?,
             "{maximum}"
         );
     }
     Ok(())
+}
+
+#[test]
+fn stop_where_a_limit_is_passed(rt: HostRuntime) -> Result<(), Fail> {
+    check_limits(&rt, rt.alloc(), &LIMITS)
 }

@@ -59,7 +59,7 @@ fn expect_ids(
 }
 
 /// The operators of `OPERATORS`.
-const SIGNS: [&str; 6] = ["=", "~=", "|=", "^=", "$=", "*="];
+const SIGNS: &str = "= ~= |= ^= $= *=";
 
 fn text_of(alloc: Global, sign: &str, operand: &str) -> Result<String, AllocError> {
     format!(in alloc; "[t{sign}{operand}]")
@@ -68,7 +68,7 @@ fn text_of(alloc: Global, sign: &str, operand: &str) -> Result<String, AllocErro
 /// A text for each operator.
 fn texts_of(alloc: Global, operand: &str) -> Result<Vec<String>, AllocError> {
     let mut texts = Vec::new(alloc);
-    for sign in &SIGNS {
+    for sign in SIGNS.split(' ') {
         texts.push(text_of(alloc, sign, operand)?)?;
     }
     Ok(texts)
@@ -86,19 +86,32 @@ fn check_operand(
     expect_ids(rt, alloc, &texts, "t", value, wanted)
 }
 
+fn check_operands(
+    rt: &impl Abort,
+    alloc: Global,
+    rows: &[(&str, &str, &[usize])],
+) -> Result<(), Fail> {
+    for (value, operand, wanted) in rows {
+        check_operand(rt, alloc, value, operand, wanted)?;
+    }
+    Ok(())
+}
+
 #[test]
 fn stand_to_operands(rt: HostRuntime) -> Result<(), Fail> {
-    for (value, operand, wanted) in &OPERATORS {
-        check_operand(&rt, rt.alloc(), value, operand, wanted)?;
+    check_operands(&rt, rt.alloc(), &OPERATORS)
+}
+
+/// Expects of each value in which of two ways `b` is a word of it.
+fn check_words(rt: &impl Abort, alloc: Global, rows: &[(&str, &[usize])]) -> Result<(), Fail> {
+    let texts = [(".b", 0), ("[class~=b]", 1)];
+    for (value, wanted) in rows {
+        expect_ids(rt, alloc, &texts, "class", value, wanted)?;
     }
     Ok(())
 }
 
 #[test]
 fn are_parted_by_white_space(rt: HostRuntime) -> Result<(), Fail> {
-    let texts = [(".b", 0), ("[class~=b]", 1)];
-    for (value, wanted) in &WORDS {
-        expect_ids(&rt, rt.alloc(), &texts, "class", value, wanted)?;
-    }
-    Ok(())
+    check_words(&rt, rt.alloc(), &WORDS)
 }

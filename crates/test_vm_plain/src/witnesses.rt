@@ -1,10 +1,11 @@
 //! Witnesses, from a program and the ranges of open elements.
 
 use lol_base::LocalName;
-use lol_program::{Compiler, Program};
+use lol_program::{Compiler, ExecutionBranch, Program};
 use lol_reasons::{witness_of, witness_under};
 use lol_stack::StackItem;
 use std::alloc::{AllocError, Global};
+use std::process::Abort;
 use std::test::Fail;
 use test_kit::{Numbered, selectors};
 
@@ -50,6 +51,35 @@ const ROWS: [Row; 5] = [
     (&[("div img", 1), ("img", 2)], &[&[0]], 1, &[1, 0]),
 ];
 
+/// Gives an open element the ranges of a node that matched it.
+fn give_ranges(
+    alloc: Global,
+    item: &mut StackItem<'_, Numbered>,
+    branch: &ExecutionBranch,
+) -> Result<(), AllocError> {
+    if let Some(range) = &branch.jumps {
+        item.jumps.push(alloc, range.start..range.end)?;
+    }
+    if let Some(range) = &branch.hereditary_jumps {
+        item.hereditary_jumps.push(alloc, range.start..range.end)?;
+    }
+    Ok(())
+}
+
+fn give_all(
+    alloc: Global,
+    item: &mut StackItem<'_, Numbered>,
+    program: &Program,
+    matched: &[usize],
+) -> Result<(), AllocError> {
+    for place in matched {
+        if let Some(instruction) = program.instructions.get(*place) {
+            give_ranges(alloc, item, &instruction.associated_branch)?;
+        }
+    }
+    Ok(())
+}
+
 /// An open element that these nodes matched.
 fn opened(
     alloc: Global,
@@ -57,24 +87,23 @@ fn opened(
     matched: &[usize],
 ) -> Result<StackItem<'static, Numbered>, AllocError> {
     let mut item = StackItem::new(alloc, LocalName::new(b"a"));
-    for place in matched {
-        let Some(instruction) = program.instructions.get(*place) else {
-            continue;
-        };
-        let branch = &instruction.associated_branch;
-        if let Some(range) = &branch.jumps {
-            item.jumps.push(alloc, range.start..range.end)?;
-        }
-        if let Some(range) = &branch.hereditary_jumps {
-            item.hereditary_jumps.push(alloc, range.start..range.end)?;
-        }
-    }
+    give_all(alloc, &mut item, program, matched)?;
     Ok(item)
 }
 
 fn program_of(alloc: Global, texts: &[(&str, u32)]) -> Result<Program, Fail> {
     let ast = selectors(alloc, texts)?;
     Ok(Compiler::new(alloc).compile(ast)?)
+}
+
+fn open(
+    alloc: Global,
+    open_elements: &mut Vec<StackItem<'static, Numbered>>,
+    program: &Program,
+    matched: &[usize],
+) -> Result<(), AllocError> {
+    open_elements.push(opened(alloc, program, matched)?)?;
+    Ok(())
 }
 
 /// Open elements, each of which these nodes matched.
@@ -85,7 +114,7 @@ fn all_opened(
 ) -> Result<Vec<StackItem<'static, Numbered>>, AllocError> {
     let mut open_elements = Vec::new(alloc);
     for nodes in matched {
-        open_elements.push(opened(alloc, program, nodes)?)?;
+        open(alloc, &mut open_elements, program, nodes)?;
     }
     Ok(open_elements)
 }
@@ -128,12 +157,16 @@ fn has_witness(alloc: Global, row: &Row) -> Result<bool, Fail> {
     Ok(is_witness(alloc, &program, id, &open_elements, &numbers, expected)?)
 }
 
-#[test]
-fn are_found_by_ranges(rt: HostRuntime) -> Result<(), Fail> {
-    for row in &ROWS {
-        assert!(rt; has_witness(rt.alloc(), row)?);
+fn check(rt: &impl Abort, alloc: Global, rows: &[Row]) -> Result<(), Fail> {
+    for (number, row) in rows.iter().enumerate() {
+        assert!(rt; has_witness(alloc, row)?, "row {number}");
     }
     Ok(())
+}
+
+#[test]
+fn are_found_by_ranges(rt: HostRuntime) -> Result<(), Fail> {
+    check(&rt, rt.alloc(), &ROWS)
 }
 
 /// Whether no selector has this id, and so no witness.
@@ -148,10 +181,15 @@ fn is_alone(alloc: Global, program: &Program, numbers: &[usize]) -> Result<bool,
     Ok(witness_of(alloc, program, 0, 3, &none, numbers)?.as_slice() == [3].as_slice())
 }
 
+/// Whether the selector under 0 of a program is passed by its tag alone, and none has another id.
+fn has_no_node(alloc: Global, program: &Program) -> Result<bool, AllocError> {
+    let none = has_none(alloc, program, 1)?;
+    Ok(none && is_alone(alloc, program, &[])? && is_alone(alloc, program, &[2])?)
+}
+
 #[test]
 fn of_no_node(rt: HostRuntime) -> Result<(), Fail> {
     let program = program_of(rt.alloc(), &[("p", 0)])?;
-    assert!(rt; has_none(rt.alloc(), &program, 1)?);
-    assert!(rt; is_alone(rt.alloc(), &program, &[])? && is_alone(rt.alloc(), &program, &[2])?);
+    assert!(rt; has_no_node(rt.alloc(), &program)?);
     Ok(())
 }
