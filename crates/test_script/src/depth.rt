@@ -10,7 +10,6 @@ use lol_program::Ast;
 use lol_vm::{ElementValue, SelectorMatchingVm};
 use std::alloc::Global;
 use std::process::Abort;
-use std::test::Fail;
 
 /// An open element, with its place from 0 on.
 type Placed = ElementValue<usize>;
@@ -124,7 +123,7 @@ fn expect_full(rt: &impl Abort, vm: &Machine, limiter: &SharedMemoryLimiter) {
 }
 
 #[test]
-fn a_document_may_be_deep(rt: HostRuntime) -> Result<(), Fail> {
+fn a_document_may_be_deep(rt: HostRuntime) {
     let mut limiter = SharedMemoryLimiter::new(8_388_608);
     let mut vm = machine(&rt, rt.alloc());
     open_all(&rt, &mut vm, &mut limiter);
@@ -135,6 +134,5 @@ fn a_document_may_be_deep(rt: HostRuntime) -> Result<(), Fail> {
     end_from(&rt, &mut vm, b"html", 0, 0);
     expect_full(&rt, &vm, &limiter);
     release(&rt, vm, &mut limiter);
-    assert_eq!(rt; limiter.current_usage(), 0);
-    Ok(())
+    assert!(rt; limiter.current_usage() == 0);
 }

@@ -6,12 +6,11 @@ ghost use Rattle.lol_vm.specs.Views.{HasRangesInside};
 use crate::runs::{expect_lines, expect_run};
 use lol_script::Status;
 use lol_vm::{
-    Ast, Attributes, Namespace, RunCause, RunRefusal, Selector, SharedMemoryLimiter, TagEvent,
-    TagReport, match_events,
+    Ast, Attributes, Namespace, RunCause, RunRefusal, Selector, SelectorError, SharedMemoryLimiter,
+    TagEvent, TagReport, match_events,
 };
 use std::alloc::Global;
 use std::process::Abort;
-use std::test::Fail;
 
 const EVERY: (&str, u32) = ("select\t0\t*\n", 1);
 
@@ -20,38 +19,36 @@ const OPENED: &str = "start\thtml\td\n";
 const REFUSED: (&str, u32) = ("refused limit\n", 1);
 
 /// Expects a limit to allow so many open elements, and to refuse one more.
-fn expect_limit(rt: &impl Abort, alloc: Global, limit: &str, opened: u32) -> Result<(), Fail> {
+fn expect_limit(rt: &impl Abort, alloc: Global, limit: &str, opened: u32) {
     let script = [(limit, 1), EVERY, (OPENED, opened.saturating_add(1))];
     let output = [("start\t0\n", opened), REFUSED];
-    expect_lines(rt, alloc, &script, Status::Refused, &output)?;
+    expect_lines(rt, alloc, &script, Status::Refused, &output);
     let script = [(limit, 1), EVERY, (OPENED, opened)];
     let output = [("start\t0\n", opened)];
-    expect_lines(rt, alloc, &script, Status::Good, &output)
+    expect_lines(rt, alloc, &script, Status::Good, &output);
 }
 
 #[test]
-fn limits_are_met_at_their_edges(rt: HostRuntime) -> Result<(), Fail> {
-    for (limit, opened) in [
-        ("limit\t511\n", 0),
-        ("limit\t1023\n", 8),
-        ("limit\t1024\n", 16),
-        ("limit\t2047\n", 16),
-        ("limit\t2048\n", 32),
-    ] {
-        expect_limit(&rt, rt.alloc(), limit, opened)?;
-    }
-    Ok(())
+fn limits_are_met_at_their_edges(rt: HostRuntime) {
+    expect_limit(&rt, rt.alloc(), "limit\t511\n", 0);
+    expect_limit(&rt, rt.alloc(), "limit\t1023\n", 8);
+    expect_limit(&rt, rt.alloc(), "limit\t1024\n", 16);
+    expect_limit(&rt, rt.alloc(), "limit\t2047\n", 16);
+    expect_limit(&rt, rt.alloc(), "limit\t2048\n", 32);
 }
 
-#[test]
-fn void_elements_are_not_charged(rt: HostRuntime) -> Result<(), Fail> {
+/// Expects a limit to allow so many open elements, and void ones besides.
+fn expect_void(rt: &impl Abort, alloc: Global, limit: &str, opened: u32) {
     let void = "start\thtml\tbr\n";
-    for (limit, opened) in [("limit\t512\n", 8), ("limit\t0\n", 0)] {
-        let script = [(limit, 1), EVERY, (OPENED, opened), (void, 3)];
-        let output = [("start\t0\n", opened), ("start\t0/\n", 3)];
-        expect_lines(&rt, rt.alloc(), &script, Status::Good, &output)?;
-    }
-    Ok(())
+    let script = [(limit, 1), EVERY, (OPENED, opened), (void, 3)];
+    let output = [("start\t0\n", opened), ("start\t0/\n", 3)];
+    expect_lines(rt, alloc, &script, Status::Good, &output);
+}
+
+#[test]
+fn void_elements_are_not_charged(rt: HostRuntime) {
+    expect_void(&rt, rt.alloc(), "limit\t512\n", 8);
+    expect_void(&rt, rt.alloc(), "limit\t0\n", 0);
 }
 
 #[test]
@@ -92,19 +89,20 @@ fn lines_past_their_edges_are_bad(rt: HostRuntime) {
     expect_run(&rt, rt.alloc(), script, Status::Good, b"");
 }
 
+/// Runs a script with so many of `:not` inside one another.
+fn expect_nested(rt: &impl Abort, alloc: Global, depth: u32, status: Status, output: &str) {
+    let tags = ("a\nstart\thtml\ta\nstart\thtml\tb\n", 1);
+    let script = [("select\t0\t", 1), (":not(", depth), tags];
+    expect_lines(rt, alloc, &script, status, &[(output, 1)]);
+}
+
 /// A `:not` inside another, 128 deep, is passed by an `a` and by nothing else.
 #[test]
-fn functions_nest_to_their_bound(rt: HostRuntime) -> Result<(), Fail> {
-    let tags = ("a\nstart\thtml\ta\nstart\thtml\tb\n", 1);
-    let rows = [
-        (128, Status::Good, "start\t0\nstart\t-\n"),
-        (129, Status::BadLine, "bad line 1: UnsupportedSyntax\n"),
-    ];
-    for (depth, status, output) in rows {
-        let script = [("select\t0\t", 1), (":not(", depth), tags];
-        expect_lines(&rt, rt.alloc(), &script, status, &[(output, 1)])?;
-    }
-    Ok(())
+fn functions_nest_to_their_bound(rt: HostRuntime) {
+    let good = "start\t0\nstart\t-\n";
+    expect_nested(&rt, rt.alloc(), 128, Status::Good, good);
+    let bad = "bad line 1: UnsupportedSyntax\n";
+    expect_nested(&rt, rt.alloc(), 129, Status::BadLine, bad);
 }
 
 fn start<'i>(name: &'i [u8], none: &'i Attributes) -> TagEvent<'i>
@@ -131,7 +129,11 @@ fn is_right(answer: &Result<Vec<TagReport>, RunRefusal>, fits: bool) -> bool {
     }
 }
 
-fn runs_right(alloc: Global, limiter: &mut SharedMemoryLimiter, fits: bool) -> Result<bool, Fail> {
+fn runs_right(
+    alloc: Global,
+    limiter: &mut SharedMemoryLimiter,
+    fits: bool,
+) -> Result<bool, SelectorError> {
     let selector = Selector::from_str(alloc, "*")?;
     let mut ast = Ast::new(alloc);
     ast.add_selector(&selector, 0)?;
@@ -142,7 +144,7 @@ fn runs_right(alloc: Global, limiter: &mut SharedMemoryLimiter, fits: bool) -> R
 }
 
 /// Whether a run of one tag over a limiter with 100 bytes in use is as it has to be, and leaves them in use.
-fn usage_counts(alloc: Global, maximum: usize, fits: bool) -> Result<bool, Fail> {
+fn usage_counts(alloc: Global, maximum: usize, fits: bool) -> Result<bool, SelectorError> {
     let mut limiter = SharedMemoryLimiter::new(maximum);
     let is_used = limiter.increase_usage(100).is_ok();
     let is_right = runs_right(alloc, &mut limiter, fits)?;
@@ -151,9 +153,7 @@ fn usage_counts(alloc: Global, maximum: usize, fits: bool) -> Result<bool, Fail>
 
 /// One element is charged for 512 bytes; 100 are in use before.
 #[test]
-fn usage_before_a_run_counts(rt: HostRuntime) -> Result<(), Fail> {
-    for (maximum, fits) in [(611, false), (612, true)] {
-        assert!(rt; usage_counts(rt.alloc(), maximum, fits)?, "{maximum}");
-    }
-    Ok(())
+fn usage_before_a_run_counts(rt: HostRuntime) {
+    assert!(rt; usage_counts(rt.alloc(), 611, false) == Ok(true));
+    assert!(rt; usage_counts(rt.alloc(), 612, true) == Ok(true));
 }

@@ -1,13 +1,9 @@
 //! Scripts that show reasons.
 
-use crate::runs::expect_run;
+use crate::runs::{Row, expect_rows, expect_run, push_line};
 use lol_script::Status;
-use std::alloc::Global;
+use std::alloc::{AllocError, Global};
 use std::process::Abort;
-use std::test::Fail;
-
-/// A script, its output, and how its run ends.
-type Row = (&'static str, &'static str, Status);
 
 /// Where the line may stand, and what each field is.
 const FIELDS: [Row; 8] = [
@@ -85,12 +81,6 @@ const ELEMENTS: [Row; 6] = [
     ),
 ];
 
-fn expect_rows(rt: &impl Abort, alloc: Global, rows: &[Row]) {
-    for (script, output, status) in rows {
-        expect_run(rt, alloc, script.as_bytes(), *status, output.as_bytes());
-    }
-}
-
 #[test]
 fn shows_fields(rt: HostRuntime) {
     expect_rows(&rt, rt.alloc(), &FIELDS);
@@ -101,26 +91,33 @@ fn shows_elements(rt: HostRuntime) {
     expect_rows(&rt, rt.alloc(), &ELEMENTS);
 }
 
-/// A script without the line `explain`, and its output without the lines of reasons.
-fn without_reasons(text: &str, dropped: &str, kept: &mut String) -> Result<(), Fail> {
+/// The lines of a text that don't begin so.
+fn without(alloc: Global, text: &str, dropped: &str) -> Result<String, AllocError> {
+    let mut kept = String::new(alloc);
     for line in text.split('\n') {
         if !line.starts_with(dropped) {
-            kept.push_str(line)?;
-            kept.push_str("\n")?;
+            push_line(&mut kept, line)?;
         }
     }
-    Ok(())
+    Ok(kept)
+}
+
+/// Expects a script without the line `explain` to write its output without the lines of reasons.
+fn expect_other_lines(rt: &impl Abort, alloc: Global, row: &Row) {
+    let (script, output, status) = *row;
+    let plain = without(alloc, script, "explain").expect(rt, "memory");
+    let lines = without(alloc, output.trim_end(), "why").expect(rt, "memory");
+    expect_run(rt, alloc, plain.as_bytes(), status, lines.as_bytes());
+}
+
+fn expect_all_other_lines(rt: &impl Abort, alloc: Global, rows: &[Row]) {
+    for row in rows {
+        expect_other_lines(rt, alloc, row);
+    }
 }
 
 /// Without `explain` a script has the other lines.
 #[test]
-fn changes_no_other_line(rt: HostRuntime) -> Result<(), Fail> {
-    for (script, output, status) in &ELEMENTS {
-        let mut plain = String::new(rt.alloc());
-        without_reasons(script, "explain", &mut plain)?;
-        let mut lines = String::new(rt.alloc());
-        without_reasons(output.trim_end(), "why", &mut lines)?;
-        expect_run(&rt, rt.alloc(), plain.as_bytes(), *status, lines.as_bytes());
-    }
-    Ok(())
+fn changes_no_other_line(rt: HostRuntime) {
+    expect_all_other_lines(&rt, rt.alloc(), &ELEMENTS);
 }

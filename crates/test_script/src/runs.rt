@@ -1,9 +1,8 @@
 //! Runs of scripts.
 
 use lol_script::{Counted, RunFault, Status, run};
-use std::alloc::Global;
+use std::alloc::{AllocError, Global};
 use std::process::Abort;
-use std::test::Fail;
 
 /// How the run of a script ended, and what it wrote.
 pub(crate) fn run_on(alloc: Global, script: &[u8]) -> (Result<Status, RunFault>, Vec<u8>) {
@@ -36,20 +35,51 @@ pub(crate) fn expect_run(
     assert!(rt; is_output);
 }
 
-/// Lines of a script, each of them some times.
-pub(crate) fn lines(alloc: Global, parts: &[(&str, u32)]) -> Result<String, Fail> {
-    let mut text = String::new(alloc);
-    for (line, count) in parts {
-        push_often(&mut text, line, *count)?;
+/// A script, its output, and how its run ends.
+pub(crate) type Row = (&'static str, &'static str, Status);
+
+/// Runs scripts that have an output and a status each.
+pub(crate) fn expect_rows(rt: &impl Abort, alloc: Global, rows: &[Row]) {
+    for (script, output, status) in rows {
+        expect_run(rt, alloc, script.as_bytes(), *status, output.as_bytes());
     }
-    Ok(text)
 }
 
-fn push_often(text: &mut String, line: &str, count: u32) -> Result<(), Fail> {
-    for _ in 0..count {
-        text.push_str(line)?;
+/// The script of a row of a text, and its output: a unit separator stands between them, and a record separator between two rows.
+pub(crate) fn parted(row: &str) -> (&str, &str) {
+    row.split_once("\x1f").unwrap_or((row, ""))
+}
+
+/// How a run ends that writes this.
+pub(crate) fn status_of(output: &str) -> Status {
+    if output.starts_with("bad line ") {
+        Status::BadLine
+    } else if output.ends_with("refused limit\n") {
+        Status::Refused
+    } else {
+        Status::Good
     }
-    Ok(())
+}
+
+/// Lines of a script, each of them some times.
+pub(crate) fn lines(rt: &impl Abort, alloc: Global, parts: &[(&str, u32)]) -> String {
+    let mut text = String::new(alloc);
+    for (line, count) in parts {
+        push_often(rt, &mut text, line, *count);
+    }
+    text
+}
+
+/// Puts a line last, with its end.
+pub(crate) fn push_line(text: &mut String, line: &str) -> Result<(), AllocError> {
+    text.push_str(line)?;
+    text.push_str("\n")
+}
+
+fn push_often(rt: &impl Abort, text: &mut String, line: &str, count: u32) {
+    for _ in 0..count {
+        text.push_str(line).expect(rt, "memory");
+    }
 }
 
 /// Runs a script whose lines, and those of its output, come some times each.
@@ -59,9 +89,8 @@ pub(crate) fn expect_lines(
     script: &[(&str, u32)],
     status: Status,
     output: &[(&str, u32)],
-) -> Result<(), Fail> {
-    let script = lines(alloc, script)?;
-    let output = lines(alloc, output)?;
+) {
+    let script = lines(rt, alloc, script);
+    let output = lines(rt, alloc, output);
     expect_run(rt, alloc, script.as_bytes(), status, output.as_bytes());
-    Ok(())
 }

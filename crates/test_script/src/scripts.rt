@@ -1,15 +1,14 @@
 //! Whole scripts: worked by hand, replayed, long, and with devices that fail.
 
-use crate::runs::{expect_lines, expect_run, lines, run_against};
+use crate::runs::{expect_lines, expect_run, lines, parted, run_against, status_of};
 use crate::{replayed, worked};
 use lol_script::{Counted, RunFault, Status, exit_status, run};
-use std::alloc::Global;
+use std::alloc::{AllocError, Global};
 use std::cell::RefCell;
 use std::fmt::{Display, Write as _};
 use std::io;
 use std::io::{ErrorKind, Read, Write};
 use std::process::Abort;
-use std::test::Fail;
 
 /// Gives one byte a call, and then fails.
 #[derive(Drop)]
@@ -55,10 +54,11 @@ fn expect_output(rt: &impl Abort, alloc: Global, script: &str, output: &str, sta
     assert!(rt; is_output, "{script:?}");
 }
 
-/// Runs scripts that have an output and a status each.
-fn expect_outputs(rt: &impl Abort, alloc: Global, rows: &[(&str, &str, Status)]) {
-    for (script, output, status) in rows {
-        expect_output(rt, alloc, script, output, *status);
+/// Runs the scripts of a text, which has their outputs too.
+fn expect_texts(rt: &impl Abort, alloc: Global, text: &str) {
+    for row in text.split('\x1e') {
+        let (script, output) = parted(row);
+        expect_output(rt, alloc, script, output, status_of(output));
     }
 }
 
@@ -71,7 +71,7 @@ fn expect_bad_lines(rt: &impl Abort, alloc: Global, rows: &[(&str, &str)]) {
 
 #[test]
 fn runs_scripts(rt: HostRuntime) {
-    expect_outputs(&rt, rt.alloc(), &worked::ANSWERED);
+    expect_texts(&rt, rt.alloc(), worked::ANSWERED);
 }
 
 #[test]
@@ -81,12 +81,12 @@ fn names_bad_lines(rt: HostRuntime) {
 
 #[test]
 fn replays_scripts_of_names(rt: HostRuntime) {
-    expect_outputs(&rt, rt.alloc(), &replayed::OF_NAMES);
+    expect_texts(&rt, rt.alloc(), replayed::OF_NAMES);
 }
 
 #[test]
 fn replays_scripts(rt: HostRuntime) {
-    expect_outputs(&rt, rt.alloc(), &replayed::OF_EVERY_KIND);
+    expect_texts(&rt, rt.alloc(), replayed::OF_EVERY_KIND);
 }
 
 #[test]
@@ -95,7 +95,7 @@ fn replays_bad_lines(rt: HostRuntime) {
 }
 
 #[test]
-fn runs_with_a_thousand_open_elements(rt: HostRuntime) -> Result<(), Fail> {
+fn runs_with_a_thousand_open_elements(rt: HostRuntime) {
     let script = [
         ("select\t0\tdiv > div p\n", 1),
         ("start\thtml\tdiv\n", 1_000),
@@ -105,28 +105,32 @@ fn runs_with_a_thousand_open_elements(rt: HostRuntime) -> Result<(), Fail> {
         ("start\t-\n", 1_000),
         ("start\t0\nend\t999,1000\nend\t998\n", 1),
     ];
-    expect_lines(&rt, rt.alloc(), &script, Status::Good, &output)
+    expect_lines(&rt, rt.alloc(), &script, Status::Good, &output);
 }
 
 /// The reports of pairs of a start tag and its end tag.
-fn reports_of_pairs(alloc: Global) -> Result<String, Fail> {
+fn reports_of_pairs(rt: &impl Abort, alloc: Global) -> String {
     let mut output = String::new(alloc);
     for pair in 0..5_500u32 {
-        let number = 2 * pair;
-        write!(output, "start\t7\nend\t{number}\n")?;
+        push_reports(alloc, &mut output, 2 * pair).expect(rt, "memory");
     }
-    Ok(output)
+    output
+}
+
+/// Puts the reports of a pair last whose start tag has this number.
+fn push_reports(alloc: Global, output: &mut String, number: u32) -> Result<(), AllocError> {
+    let reports = format!(in alloc; "start\t7\nend\t{number}\n")?;
+    output.push_str(reports.as_str())
 }
 
 #[test]
-fn runs_a_long_script(rt: HostRuntime) -> Result<(), Fail> {
+fn runs_a_long_script(rt: HostRuntime) {
     let script = [("select\t7\tp\n", 1), ("start\thtml\tp\nend\tp\n", 5_500)];
-    let script = lines(rt.alloc(), &script)?;
+    let script = lines(&rt, rt.alloc(), &script);
     assert!(rt; script.len() > 100_000);
-    let output = reports_of_pairs(rt.alloc())?;
+    let output = reports_of_pairs(&rt, rt.alloc());
     let (script, output) = (script.as_bytes(), output.as_bytes());
     expect_run(&rt, rt.alloc(), script, Status::Good, output);
-    Ok(())
 }
 
 /// Whether a run fails with a reader that breaks: one of its four calls failed, and nothing is written.
@@ -183,7 +187,7 @@ fn a_bad_line_ends_with_2(rt: HostRuntime) {
     let script = b"select\t0\tp\nstart\thtml\tp\nstart\tp\n";
     let (outcome, is_output) = run_against(rt.alloc(), script, b"bad line 3: form\n");
     assert!(rt; is_output);
-    assert_eq!(rt; exit_status(&rt, outcome), 2);
+    assert!(rt; exit_status(&rt, outcome) == 2);
 }
 
 /// Whether an outcome ends with a status, and tells a text.

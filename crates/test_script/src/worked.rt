@@ -1,197 +1,85 @@
 //! Scripts that were worked by hand.
 
-use lol_script::Status;
-
-/// A script, its output, and how its run ends.
-pub(super) const ANSWERED: [(&str, &str, Status); 39] = [
-    (
-        "tries\nselect\t0\tdiv p\nselect\t1\tdiv > p\nselect\t2\t.lead p, p.lead\nselect\t3\t:not(p, .lead) > p:first-child\nstart\thtml\tdiv\nstart\thtml\tsection\tclass=wide lead\nstart\thtml\tp\nend\tp\nstart\thtml\tp\tclass=lead\nend\tdiv\nstart\thtml\tp\tclass=lead\n",
-        "start\t-\tasked\ttries 4 2\nstart\t-\tasked\ttries 7 2\nstart\t0,2\tasked\ttries 6 2\nend\t2\nstart\t0,2\tasked\ttries 6 2\nend\t0,1,4\nstart\t2\tasked\ttries 4 2\n",
-        Status::Good,
-    ),
-    ("", "", Status::Good),
-    (
-        "select\t07\tp\nstart\thtml\tp\n",
-        "start\t7\n",
-        Status::Good,
-    ),
-    (
-        "select\t0\t:not(div)\nselect\t1\t|p\nstart\thtml\tdiv\nstart\thtml\tp\n",
-        "start\t-\nstart\t0\n",
-        Status::Good,
-    ),
-    (
-        "select\t7\t:not(div):not(p) > \\42 r/* none */\nstart\thtml\tmain\nstart\thtml\tbr\nstart\thtml\tdiv\nstart\thtml\tbr\n",
-        "start\t-\nstart\t7/\nstart\t-\nstart\t-\n",
-        Status::Good,
-    ),
-    (
-        "select\t4\t* > br, P\nselect\t2\tp\nstart\thtml\tp\nstart\thtml\tBR\nstart\thtml\tp\nend\tP\nend\tP\n",
-        "start\t2,4\nstart\t4/\nstart\t2,4\nend\t2\nend\t0\n",
-        Status::Good,
-    ),
-    ("end\ttable", "end\t-\n", Status::Good),
-    (
-        "select\t0\t:is(h1, h2) > a\nstart\thtml\th1\nstart\thtml\ta\nend\th1\nstart\thtml\tp\nstart\thtml\ta\n",
-        "start\t-\nstart\t0\nend\t0,1\nstart\t-\nstart\t-\n",
-        Status::Good,
-    ),
-    (
-        "select\t0\t:not(:not(a, b))\nstart\thtml\ta\nstart\thtml\tb\nstart\thtml\tc\n",
-        "start\t0\nstart\t0\nstart\t-\n",
-        Status::Good,
-    ),
-    (
-        "select\t0\t:not(*)\nselect\t1\t:not(|a)\nstart\thtml\ta\n",
-        "start\t1\n",
-        Status::Good,
-    ),
-    (
-        "select\t0\t:not(:is(a, b))\nstart\thtml\ta\nstart\thtml\tc\n",
-        "start\t-\nstart\t0\n",
-        Status::Good,
-    ),
-    (
-        "select\t0\t:not(a, b)\nstart\thtml\ta\nstart\thtml\tb\nstart\thtml\tc\n",
-        "start\t-\nstart\t-\nstart\t0\n",
-        Status::Good,
-    ),
-    (
-        "select\t0\tdiv p\nselect\t1\tdiv > p\nstart\thtml\tdiv\nstart\thtml\tsection\nstart\thtml\tp\nend\tdiv\n",
-        "start\t-\nstart\t-\nstart\t0\nend\t0,1,2\n",
-        Status::Good,
-    ),
-    (
-        "tries\nselect\t0\tdiv p\nselect\t1\tdiv > p\nstart\thtml\tdiv\nstart\thtml\tsection\nstart\thtml\tp\nend\tdiv\n",
-        "start\t-\ttries 1 0\nstart\t-\ttries 3 0\nstart\t0\ttries 2 0\nend\t0,1,2\n",
-        Status::Good,
-    ),
-    (
-        "tries\nselect\t0\t.a p\nselect\t1\tp\nstart\thtml\tdiv\tclass=a\nstart\thtml\tp\n",
-        "start\t-\tasked\ttries 2 1\nstart\t0,1\tasked\ttries 3 1\n",
-        Status::Good,
-    ),
-    (
-        "tries\nselect\t0\tdiv div\nstart\thtml\tdiv\nstart\thtml\tdiv\nstart\thtml\tdiv\nend\tdiv\nstart\thtml\tdiv\n",
-        "start\t-\ttries 1 0\nstart\t0\ttries 2 0\nstart\t0\ttries 2 0\nend\t2\nstart\t0\ttries 2 0\n",
-        Status::Good,
-    ),
-    (
-        "tries\nselect\t0\tdiv > .a\nselect\t1\tdiv .b\nselect\t2\tdiv > p\nstart\thtml\tdiv\nstart\thtml\tp\tclass=b\n",
-        "start\t-\ttries 1 0\nstart\t1,2\tasked\ttries 4 2\n",
-        Status::Good,
-    ),
-    (
-        "tries\nselect\t0\tdiv .b\nstart\thtml\tdiv\nstart\thtml\tsection\nstart\thtml\tp\tclass=b\n",
-        "start\t-\ttries 1 0\nstart\t-\tasked\ttries 2 1\nstart\t0\tasked\ttries 2 1\n",
-        Status::Good,
-    ),
-    (
-        "tries\nselect\t0\t:not(div.foo)\nstart\thtml\tdiv\nstart\thtml\tp\n",
-        "start\t0\tasked\ttries 1 1\nstart\t0\ttries 1 0\n",
-        Status::Good,
-    ),
-    (
-        "tries\nselect\t0\t:not(:not(a, b))\nstart\thtml\ta\nstart\thtml\tb\nstart\thtml\tc\n",
-        "start\t0\ttries 1 0\nstart\t0\ttries 1 0\nstart\t-\ttries 1 0\n",
-        Status::Good,
-    ),
-    (
-        "tries\nselect\t0\t:not(.a, p)\nstart\thtml\tp\nstart\thtml\tdiv\tclass=b\n",
-        "start\t-\ttries 1 0\nstart\t0\tasked\ttries 1 1\n",
-        Status::Good,
-    ),
-    (
-        "tries\nselect\t0\tdiv:not([a*=\"\"])\nstart\thtml\tdiv\nstart\thtml\tp\n",
-        "start\t0\tasked\ttries 1 1\nstart\t-\ttries 1 0\n",
-        Status::Good,
-    ),
-    (
-        "tries\nselect\t0\t:not(*)\nselect\t1\t:not(|a)\nstart\thtml\ta\n",
-        "start\t1\ttries 2 0\n",
-        Status::Good,
-    ),
-    (
-        "tries\nselect\t0\t:not(*)\nselect\t1\t:not(|a)\nstart\thtml\tb\n",
-        "start\t1\ttries 2 0\n",
-        Status::Good,
-    ),
-    (
-        "tries\nselect\t0\t:is(a.x, p)\nstart\thtml\tp\nstart\thtml\ta\tclass=x\nstart\thtml\tdiv\n",
-        "start\t0\ttries 1 0\nstart\t0\tasked\ttries 1 1\nstart\t-\ttries 1 0\n",
-        Status::Good,
-    ),
-    (
-        "select\t0\tbr:first-child\nselect\t1\tp:nth-child(2)\nstart\thtml\tbr\nstart\thtml\tp\n",
-        "start\t0/\nstart\t1\n",
-        Status::Good,
-    ),
-    (
-        "select\t0\tspan:nth-of-type(2)\nstart\thtml\tdiv\nstart\thtml\tspan\nend\tspan\nstart\thtml\tSPAN\n",
-        "start\t-\nstart\t-\nend\t1\nstart\t0\n",
-        Status::Good,
-    ),
-    (
-        "select\t0\t[type=\"TEXT\"]\nstart\thtml\tinput\ttype=text\nstart\tsvg\tinput\ttype=text\n",
-        "start\t0/\tasked\nstart\t-\tasked\n",
-        Status::Good,
-    ),
-    (
-        "limit\t512\nselect\t0\t*\nstart\thtml\ta\nstart\thtml\tb\nstart\thtml\tc\nstart\thtml\td\nstart\thtml\te\nstart\thtml\tf\nstart\thtml\tg\nstart\thtml\th\nstart\thtml\ti\n",
-        "start\t0\nstart\t0\nstart\t0\nstart\t0\nstart\t0\nstart\t0\nstart\t0\nstart\t0\nrefused limit\n",
-        Status::Refused,
-    ),
-    (
-        "limit\t512\nlimit\t511\nstart\thtml\ta\n",
-        "refused limit\n",
-        Status::Refused,
-    ),
-    (
-        "limit\t511\nlimit\t512\nstart\thtml\ta\n",
-        "start\t-\n",
-        Status::Good,
-    ),
-    (
-        "limit\t0\nstart\thtml\tbr\nend\tbr\nstart\tsvg/\tpath\ndrop\tsvg\tg\n",
-        "start\t-\nend\t-\nstart\t-\tasked\ndropped\n",
-        Status::Good,
-    ),
-    (
-        "tries\nselect\t0\t[a*=\"\"]\nselect\t1\t:not([a*=\"\"])\nstart\thtml\tp\ta=x\n",
-        "start\t1\tasked\ttries 2 2\n",
-        Status::Good,
-    ),
-    (
-        "esi\nselect\t0\t*\nstart\thtml\tesi:include\nstart\thtml\tESI:INCLUDE\nend\tesi:include\n",
-        "start\t0/\nstart\t0\nend\t1\n",
-        Status::Good,
-    ),
-    (
-        "select\t0\t:nth-child(2)\ndrop\tsvg\tg\nstart\thtml\tp\nend\tg\n",
-        "dropped\nstart\t0\nend\t-\n",
-        Status::Good,
-    ),
-    (
-        "tries\nselect\t0\tcircle\nstart\tsvg/\tcircle\nend\tcircle\n",
-        "start\t0/\tasked\ttries 1 0\nend\t-\n",
-        Status::Good,
-    ),
-    (
-        "select\t0\ta[href]\nstart\thtml\ta\thref=http://example.com\nstart\thtml\ta\nstart\thtml\tdiv\n",
-        "start\t0\tasked\nstart\t-\tasked\nstart\t-\n",
-        Status::Good,
-    ),
-    (
-        "select\t0\t[b=\"c=d\"]\nselect\t1\t[e=\"\"]\nselect\t2\t[f]\nstart\tmathml\tmi\tb=c=d\te=\tf\nstart\tmathml/\tmi\tb\tE\n",
-        "start\t0,1,2\tasked\nstart\t1/\tasked\n",
-        Status::Good,
-    ),
-    (
-        "limit\t007\nselect\t0000000000004294967295\tp\nend\tp\n",
-        "end\t-\n",
-        Status::Good,
-    ),
-];
+/// 39 scripts, as `expect_texts` takes them.
+pub(super) const ANSWERED: &str = "\
+    tries\nselect\t0\tdiv p\nselect\t1\tdiv > p\nselect\t2\t.lead p, p.lead\nselect\t3\t:not(p, .lead) > p:first-child\nstart\thtml\tdiv\nstart\thtml\tsection\tclass=wide lead\nstart\thtml\tp\nend\tp\nstart\thtml\tp\tclass=lead\nend\tdiv\nstart\thtml\tp\tclass=lead\n\x1f\
+    start\t-\tasked\ttries 4 2\nstart\t-\tasked\ttries 7 2\nstart\t0,2\tasked\ttries 6 2\nend\t2\nstart\t0,2\tasked\ttries 6 2\nend\t0,1,4\nstart\t2\tasked\ttries 4 2\n\x1e\
+    \x1f\
+    \x1e\
+    select\t07\tp\nstart\thtml\tp\n\x1f\
+    start\t7\n\x1e\
+    select\t0\t:not(div)\nselect\t1\t|p\nstart\thtml\tdiv\nstart\thtml\tp\n\x1f\
+    start\t-\nstart\t0\n\x1e\
+    select\t7\t:not(div):not(p) > \\42 r/* none */\nstart\thtml\tmain\nstart\thtml\tbr\nstart\thtml\tdiv\nstart\thtml\tbr\n\x1f\
+    start\t-\nstart\t7/\nstart\t-\nstart\t-\n\x1e\
+    select\t4\t* > br, P\nselect\t2\tp\nstart\thtml\tp\nstart\thtml\tBR\nstart\thtml\tp\nend\tP\nend\tP\n\x1f\
+    start\t2,4\nstart\t4/\nstart\t2,4\nend\t2\nend\t0\n\x1e\
+    end\ttable\x1f\
+    end\t-\n\x1e\
+    select\t0\t:is(h1, h2) > a\nstart\thtml\th1\nstart\thtml\ta\nend\th1\nstart\thtml\tp\nstart\thtml\ta\n\x1f\
+    start\t-\nstart\t0\nend\t0,1\nstart\t-\nstart\t-\n\x1e\
+    select\t0\t:not(:not(a, b))\nstart\thtml\ta\nstart\thtml\tb\nstart\thtml\tc\n\x1f\
+    start\t0\nstart\t0\nstart\t-\n\x1e\
+    select\t0\t:not(*)\nselect\t1\t:not(|a)\nstart\thtml\ta\n\x1f\
+    start\t1\n\x1e\
+    select\t0\t:not(:is(a, b))\nstart\thtml\ta\nstart\thtml\tc\n\x1f\
+    start\t-\nstart\t0\n\x1e\
+    select\t0\t:not(a, b)\nstart\thtml\ta\nstart\thtml\tb\nstart\thtml\tc\n\x1f\
+    start\t-\nstart\t-\nstart\t0\n\x1e\
+    select\t0\tdiv p\nselect\t1\tdiv > p\nstart\thtml\tdiv\nstart\thtml\tsection\nstart\thtml\tp\nend\tdiv\n\x1f\
+    start\t-\nstart\t-\nstart\t0\nend\t0,1,2\n\x1e\
+    tries\nselect\t0\tdiv p\nselect\t1\tdiv > p\nstart\thtml\tdiv\nstart\thtml\tsection\nstart\thtml\tp\nend\tdiv\n\x1f\
+    start\t-\ttries 1 0\nstart\t-\ttries 3 0\nstart\t0\ttries 2 0\nend\t0,1,2\n\x1e\
+    tries\nselect\t0\t.a p\nselect\t1\tp\nstart\thtml\tdiv\tclass=a\nstart\thtml\tp\n\x1f\
+    start\t-\tasked\ttries 2 1\nstart\t0,1\tasked\ttries 3 1\n\x1e\
+    tries\nselect\t0\tdiv div\nstart\thtml\tdiv\nstart\thtml\tdiv\nstart\thtml\tdiv\nend\tdiv\nstart\thtml\tdiv\n\x1f\
+    start\t-\ttries 1 0\nstart\t0\ttries 2 0\nstart\t0\ttries 2 0\nend\t2\nstart\t0\ttries 2 0\n\x1e\
+    tries\nselect\t0\tdiv > .a\nselect\t1\tdiv .b\nselect\t2\tdiv > p\nstart\thtml\tdiv\nstart\thtml\tp\tclass=b\n\x1f\
+    start\t-\ttries 1 0\nstart\t1,2\tasked\ttries 4 2\n\x1e\
+    tries\nselect\t0\tdiv .b\nstart\thtml\tdiv\nstart\thtml\tsection\nstart\thtml\tp\tclass=b\n\x1f\
+    start\t-\ttries 1 0\nstart\t-\tasked\ttries 2 1\nstart\t0\tasked\ttries 2 1\n\x1e\
+    tries\nselect\t0\t:not(div.foo)\nstart\thtml\tdiv\nstart\thtml\tp\n\x1f\
+    start\t0\tasked\ttries 1 1\nstart\t0\ttries 1 0\n\x1e\
+    tries\nselect\t0\t:not(:not(a, b))\nstart\thtml\ta\nstart\thtml\tb\nstart\thtml\tc\n\x1f\
+    start\t0\ttries 1 0\nstart\t0\ttries 1 0\nstart\t-\ttries 1 0\n\x1e\
+    tries\nselect\t0\t:not(.a, p)\nstart\thtml\tp\nstart\thtml\tdiv\tclass=b\n\x1f\
+    start\t-\ttries 1 0\nstart\t0\tasked\ttries 1 1\n\x1e\
+    tries\nselect\t0\tdiv:not([a*=\"\"])\nstart\thtml\tdiv\nstart\thtml\tp\n\x1f\
+    start\t0\tasked\ttries 1 1\nstart\t-\ttries 1 0\n\x1e\
+    tries\nselect\t0\t:not(*)\nselect\t1\t:not(|a)\nstart\thtml\ta\n\x1f\
+    start\t1\ttries 2 0\n\x1e\
+    tries\nselect\t0\t:not(*)\nselect\t1\t:not(|a)\nstart\thtml\tb\n\x1f\
+    start\t1\ttries 2 0\n\x1e\
+    tries\nselect\t0\t:is(a.x, p)\nstart\thtml\tp\nstart\thtml\ta\tclass=x\nstart\thtml\tdiv\n\x1f\
+    start\t0\ttries 1 0\nstart\t0\tasked\ttries 1 1\nstart\t-\ttries 1 0\n\x1e\
+    select\t0\tbr:first-child\nselect\t1\tp:nth-child(2)\nstart\thtml\tbr\nstart\thtml\tp\n\x1f\
+    start\t0/\nstart\t1\n\x1e\
+    select\t0\tspan:nth-of-type(2)\nstart\thtml\tdiv\nstart\thtml\tspan\nend\tspan\nstart\thtml\tSPAN\n\x1f\
+    start\t-\nstart\t-\nend\t1\nstart\t0\n\x1e\
+    select\t0\t[type=\"TEXT\"]\nstart\thtml\tinput\ttype=text\nstart\tsvg\tinput\ttype=text\n\x1f\
+    start\t0/\tasked\nstart\t-\tasked\n\x1e\
+    limit\t512\nselect\t0\t*\nstart\thtml\ta\nstart\thtml\tb\nstart\thtml\tc\nstart\thtml\td\nstart\thtml\te\nstart\thtml\tf\nstart\thtml\tg\nstart\thtml\th\nstart\thtml\ti\n\x1f\
+    start\t0\nstart\t0\nstart\t0\nstart\t0\nstart\t0\nstart\t0\nstart\t0\nstart\t0\nrefused limit\n\x1e\
+    limit\t512\nlimit\t511\nstart\thtml\ta\n\x1f\
+    refused limit\n\x1e\
+    limit\t511\nlimit\t512\nstart\thtml\ta\n\x1f\
+    start\t-\n\x1e\
+    limit\t0\nstart\thtml\tbr\nend\tbr\nstart\tsvg/\tpath\ndrop\tsvg\tg\n\x1f\
+    start\t-\nend\t-\nstart\t-\tasked\ndropped\n\x1e\
+    tries\nselect\t0\t[a*=\"\"]\nselect\t1\t:not([a*=\"\"])\nstart\thtml\tp\ta=x\n\x1f\
+    start\t1\tasked\ttries 2 2\n\x1e\
+    esi\nselect\t0\t*\nstart\thtml\tesi:include\nstart\thtml\tESI:INCLUDE\nend\tesi:include\n\x1f\
+    start\t0/\nstart\t0\nend\t1\n\x1e\
+    select\t0\t:nth-child(2)\ndrop\tsvg\tg\nstart\thtml\tp\nend\tg\n\x1f\
+    dropped\nstart\t0\nend\t-\n\x1e\
+    tries\nselect\t0\tcircle\nstart\tsvg/\tcircle\nend\tcircle\n\x1f\
+    start\t0/\tasked\ttries 1 0\nend\t-\n\x1e\
+    select\t0\ta[href]\nstart\thtml\ta\thref=http://example.com\nstart\thtml\ta\nstart\thtml\tdiv\n\x1f\
+    start\t0\tasked\nstart\t-\tasked\nstart\t-\n\x1e\
+    select\t0\t[b=\"c=d\"]\nselect\t1\t[e=\"\"]\nselect\t2\t[f]\nstart\tmathml\tmi\tb=c=d\te=\tf\nstart\tmathml/\tmi\tb\tE\n\x1f\
+    start\t0,1,2\tasked\nstart\t1/\tasked\n\x1e\
+    limit\t007\nselect\t0000000000004294967295\tp\nend\tp\n\x1f\
+    end\t-\n";
 
 /// A script with a bad line, and its output.
 pub(super) const BAD: [(&str, &str); 44] = [
