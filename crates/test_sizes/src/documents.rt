@@ -9,11 +9,10 @@ use lol_examples::PageTag;
 use lol_vm::{MatchInfo, Namespace, TagEvent};
 use std::alloc::{AllocError, Global};
 use std::process::Abort;
-use std::test::Fail;
 use test_kit::{is_tried, name_of};
 
 /// A document without an end.
-#[derive(Debug, Clone, Copy, PartialEq, Eq)]
+#[derive(Clone, Copy, PartialEq, Eq)]
 pub(crate) enum Document {
     /// Over and over a `div` with a `p` and in it a `br`, and the end of the `div`.
     Pairs,
@@ -58,12 +57,7 @@ impl Wanted {
     /// Whether exactly these are the matches of a start tag.
     pub(crate) fn are_matches(&self, matched: &[MatchInfo]) -> bool {
         match self {
-            Ids(ids, content) => {
-                matched.len() == ids.len()
-                    && matched.iter().zip(*ids).all(|(info, id)| {
-                        info.match_id == *id && info.with_content == *content
-                    })
-            }
+            Ids(ids, content) => are_ids_of(matched, ids, *content),
             Closed(_, _) => false,
         }
     }
@@ -77,7 +71,26 @@ impl Wanted {
     }
 }
 
+/// Whether exactly these ids are reported, in order, all with content or none.
+fn are_ids_of(matched: &[MatchInfo], ids: &[u32], content: bool) -> bool {
+    for (info, id) in matched.iter().zip(ids) {
+        if info.match_id != *id || info.with_content != content {
+            return false;
+        }
+    }
+    matched.len() == ids.len()
+}
+
 impl Document {
+    /// How a failure names it.
+    pub(crate) fn name(self) -> &'static str {
+        match self {
+            Pairs => "pairs",
+            Nested => "nested",
+            Waves => "waves",
+        }
+    }
+
     /// The selectors that are looked for.
     pub(crate) fn selectors(self) -> &'static [(&'static str, u32)] {
         match self {
@@ -97,25 +110,48 @@ impl Document {
     /// What is to be answered to the tag of a place.
     pub(crate) fn wanted(self, place: usize) -> Wanted {
         match self {
-            Pairs => match place % 4 {
-                0 => Ids(&[7], true),
-                1 => Ids(&[3], true),
-                2 => Ids(&[40], false),
-                _ => Closed(place.saturating_sub(3), place.saturating_sub(2)),
-            },
+            Pairs => wanted_of_pairs(place),
             Nested if place == 0 => Ids(&[], true),
             Nested => Ids(&[5], true),
-            Waves => match place % WAVE {
-                1_999 => Closed(place.saturating_sub(1_999), place.saturating_sub(1)),
-                1 => Ids(&[0, 1], true),
-                at if at % 3 == 1 => Ids(&[0, 1, 40], true),
-                _ => match attributes_at(place) {
-                    0..6 => Ids(&[0], true),
-                    6..300 => Ids(&[0, 2], true),
-                    _ => Ids(&[0, 2, 3], true),
-                },
-            },
+            Waves => wanted_of_waves(place),
         }
+    }
+
+    /// Whether the tag of a place is an end tag.
+    fn ends(self, place: usize) -> bool {
+        matches!(self.wanted(place), Closed(_, _))
+    }
+
+    /// The name of its end tags.
+    fn end_name(self) -> &'static [u8] {
+        if self == Pairs { b"div" } else { b"TOP" }
+    }
+}
+
+fn wanted_of_pairs(place: usize) -> Wanted {
+    match place % 4 {
+        0 => Ids(&[7], true),
+        1 => Ids(&[3], true),
+        2 => Ids(&[40], false),
+        _ => Closed(place.saturating_sub(3), place.saturating_sub(2)),
+    }
+}
+
+fn wanted_of_waves(place: usize) -> Wanted {
+    match place % WAVE {
+        1_999 => Closed(place.saturating_sub(1_999), place.saturating_sub(1)),
+        1 => Ids(&[0, 1], true),
+        at if at % 3 == 1 => Ids(&[0, 1, 40], true),
+        _ => Ids(ids_of_named(attributes_at(place)), true),
+    }
+}
+
+/// The ids of a tag that is no `div` and has so many attributes.
+fn ids_of_named(attributes: usize) -> &'static [u32] {
+    match attributes {
+        0..6 => &[0],
+        6..300 => &[0, 2],
+        _ => &[0, 2, 3],
     }
 }
 
@@ -132,7 +168,7 @@ pub(crate) struct Words {
 }
 
 impl Words {
-    pub(crate) fn new(alloc: Global) -> Result<Self, Fail> {
+    pub(crate) fn new(alloc: Global) -> Result<Self, AllocError> {
         Ok(Words {
             names: names_of_all(alloc)?,
             attributes: attributes_of_all(alloc)?,
@@ -158,23 +194,34 @@ impl Words {
         }
     }
 
+    /// So many attributes.
+    fn attributes(&self, rt: &impl Abort, count: usize) -> &Attributes {
+        let attributes = self.attributes.as_slice().get(count);
+        attributes.expect(rt, "attributes")
+    }
+
     /// The tag of a place.
     pub(crate) fn event(&self, rt: &impl Abort, document: Document, place: usize) -> TagEvent<'_>
         ensures { HasRangesInside result }
     {
-        if let Closed(_, _) = document.wanted(place) {
-            let name: &[u8] = if document == Pairs { b"div" } else { b"TOP" };
+        if document.ends(place) {
+            let name = document.end_name();
             return TagEvent::End { name };
         }
         let (name, count) = self.start(document, place);
-        let attributes = self.attributes.as_slice().get(count);
-        let aux_info = attributes.expect(rt, "attributes").aux_info(false);
-        TagEvent::Start {
-            name,
-            ns: Namespace::Html,
-            aux_info,
-            finish: true,
-        }
+        start_tag(name, self.attributes(rt, count))
+    }
+}
+
+/// A start tag of HTML with these attributes.
+fn start_tag<'t>(name: &'t [u8], attributes: &'t Attributes) -> TagEvent<'t>
+    ensures { HasRangesInside result }
+{
+    TagEvent::Start {
+        name,
+        ns: Namespace::Html,
+        aux_info: attributes.aux_info(false),
+        finish: true,
     }
 }
 
@@ -223,7 +270,7 @@ fn numbered(alloc: Global, count: usize) -> Result<Attributes, AllocError> {
 }
 
 /// The tag of a page for an event.
-pub(crate) fn page_tag<'e>(event: &TagEvent<'e>) -> PageTag<'e>
+fn page_tag<'e>(event: &TagEvent<'e>) -> PageTag<'e>
     requires { HasRangesInside event.now }
     ensures { HasAttributesInside result }
 {
@@ -236,6 +283,21 @@ pub(crate) fn page_tag<'e>(event: &TagEvent<'e>) -> PageTag<'e>
         } => PageTag::Start { name, ns, aux_info },
         TagEvent::End { name } => PageTag::End { name },
     }
+}
+
+/// The page of these tags.
+pub(crate) fn page_of<'e>(
+    alloc: Global,
+    events: &[TagEvent<'e>],
+) -> Result<Vec<PageTag<'e>>, AllocError>
+    requires { All HasRangesInside events.now }
+    ensures { IfOk result (λ page. All HasAttributesInside page.items) }
+{
+    let mut page = Vec::new(alloc);
+    for event in events {
+        page.push(page_tag(event))?;
+    }
+    Ok(page)
 }
 
 /// Whether a run of so many tags is tried. Those of waves take longer.

@@ -1,45 +1,48 @@
 //! Elements that gather ids and ranges, and counters by type.
 
+use crate::sizes::{drawn, expect, expect_holds};
 use lol_base::{LocalName, Namespace, NthChild};
 use lol_instructions::{AddressRange, ExecutionBranch};
 use lol_memory::{DenseHashSet, MatchInfo};
 use lol_stack::{AddressRanges, ExecutionCtx, StackItem, StackItemOf, TypedChildCounterMap};
 use std::alloc::{AllocError, Global};
 use std::process::Abort;
-use std::test::Fail;
 use test_kit::{Numbered, Random, name_of};
 
-/// Whether an element of a name and a start tag of it are the same where they borrow nothing.
-fn are_owned(alloc: Global, word: &[u8]) -> Result<bool, AllocError> {
+fn is_spelled(item: &StackItem<'_, Numbered>, word: &[u8]) -> bool {
+    item.local_name.spelling() == Some(word)
+}
+
+/// Whether an element of a name is the same where it borrows nothing.
+fn is_item_owned(alloc: Global, word: &[u8]) -> Result<bool, AllocError> {
     let mut item: StackItem<Numbered> = StackItemOf::new(alloc, LocalName::new(word));
     item.element_data.value = word.len();
     let item = item.into_owned(alloc)?;
-    let ctx: ExecutionCtx<Numbered> = ExecutionCtx::new(
-        alloc,
-        LocalName::new(word),
-        Namespace::Svg,
-        true,
-    );
+    Ok(is_spelled(&item, word) && item.element_data.value == word.len())
+}
+
+/// Whether a start tag of a name is the same where it borrows nothing.
+fn is_tag_owned(alloc: Global, word: &[u8]) -> Result<bool, AllocError> {
+    let name = LocalName::new(word);
+    let ctx: ExecutionCtx<Numbered> = ExecutionCtx::new(alloc, name, Namespace::Svg, true);
     let ctx = ctx.into_owned(alloc)?;
-    Ok(
-        item.local_name.spelling() == Some(word)
-            && item.element_data.value == word.len()
-            && ctx.stack_item.local_name.spelling() == Some(word)
-            && ctx.ns == Namespace::Svg,
-    )
+    Ok(is_spelled(&ctx.stack_item, word) && ctx.ns == Namespace::Svg)
+}
+
+/// Goes over the names of 1 to 2,200 bytes that a word begins with.
+fn check_names(rt: &impl Abort, alloc: Global, word: &[u8]) {
+    for letters in 1..2_201 {
+        let name = word.get(..letters).unwrap_or(b"");
+        expect(rt, is_item_owned(alloc, name), letters);
+        expect(rt, is_tag_owned(alloc, name), letters);
+    }
 }
 
 /// Names of 1 to 2,200 bytes.
 #[test]
-fn elements_of_every_name_are_owned(rt: HostRuntime) -> Result<(), Fail> {
-    let mut random = Random::new(12);
-    let mut word = String::from_str(rt.alloc(), "_")?;
-    for letters in 0..2_200u32 {
-        let owned = are_owned(rt.alloc(), word.as_bytes());
-        assert!(rt; owned == Ok(true), "{letters}");
-        word.push(random.letter())?;
-    }
-    Ok(())
+fn elements_of_every_name_are_owned(rt: HostRuntime) {
+    let word = drawn(&rt, rt.alloc(), 12, "_", 2_199);
+    check_names(&rt, rt.alloc(), word.as_bytes());
 }
 
 /// Whether these are the ranges of one place each, from a first one on.
@@ -50,39 +53,42 @@ fn are_from(ranges: &[AddressRange], first: usize) -> bool {
     })
 }
 
+fn pushes(alloc: Global, ranges: &mut AddressRanges, start: usize) -> Result<bool, AllocError> {
+    let end = start.saturating_add(1);
+    ranges.push(alloc, start..end)?;
+    Ok(ranges.as_slice().len() == end)
+}
+
+fn push_many(rt: &impl Abort, alloc: Global, ranges: &mut AddressRanges) {
+    for start in 0..5_000 {
+        expect(rt, pushes(alloc, ranges, start), start);
+    }
+}
+
 /// 5,000 ranges.
 #[test]
-fn ranges_are_many(rt: HostRuntime) -> Result<(), Fail> {
+fn ranges_are_many(rt: HostRuntime) {
     let mut ranges = AddressRanges::new();
-    for start in 0..5_000usize {
-        let pushed = ranges.push(rt.alloc(), start..start.saturating_add(1));
-        assert!(rt;
-            pushed.is_ok() && ranges.as_slice().len() == start + 1,
-            "{start}"
-        );
-    }
-    assert!(rt; are_from(ranges.as_slice(), 0));
-    Ok(())
+    push_many(&rt, rt.alloc(), &mut ranges);
+    expect_holds(&rt, are_from(ranges.as_slice(), 0), 0);
 }
 
 /// Ranges that are drawn, up to four million, each the second of a list.
 #[test]
-fn ranges_are_drawn(rt: HostRuntime) -> Result<(), Fail> {
+fn ranges_are_drawn(rt: HostRuntime) {
     let mut random = Random::new(13);
     for place in 0..3_000u32 {
         let start = random.below(1 << (place % 23)) as usize;
         let end = start.saturating_add(random.below(1 << 20) as usize);
-        let second = second_of(rt.alloc(), start..end)?;
-        assert!(rt; second == Some(start..end), "{start}");
+        expect(&rt, is_second(rt.alloc(), start, end), start);
     }
-    Ok(())
 }
 
-fn second_of(alloc: Global, range: AddressRange) -> Result<Option<AddressRange>, AllocError> {
+fn is_second(alloc: Global, start: usize, end: usize) -> Result<bool, AllocError> {
     let mut ranges = AddressRanges::new();
     ranges.push(alloc, 0..1)?;
-    ranges.push(alloc, range)?;
-    Ok(ranges.pop())
+    ranges.push(alloc, start..end)?;
+    Ok(ranges.pop() == Some(start..end))
 }
 
 /// The branch of a number: its id, a range from it on, and a range after ten thousand more.
@@ -138,38 +144,59 @@ fn gathers(
     ctx: &mut ExecutionCtx<'_, Numbered>,
     number: u32,
 ) -> Result<(), AllocError> {
-    ctx.add_execution_branch(alloc, &branch(alloc, number)?)
+    let branch = branch(alloc, number)?;
+    gather(alloc, ctx, &branch)
+}
+
+/// Adds 3,000 branches.
+fn gather_many(rt: &impl Abort, alloc: Global, ctx: &mut ExecutionCtx<'_, Numbered>) {
+    for number in 0..3_000 {
+        let gathered = gathers(alloc, ctx, number).is_ok();
+        expect_holds(rt, gathered, number as usize);
+    }
+}
+
+/// A start tag that has gathered nothing.
+fn start_tag(alloc: Global) -> ExecutionCtx<'static, Numbered> {
+    ExecutionCtx::new(alloc, LocalName::new(b"a"), Namespace::Html, false)
 }
 
 /// 3,000 branches.
 #[test]
-fn start_tags_gather_many_branches(rt: HostRuntime) -> Result<(), Fail> {
-    let alloc = rt.alloc();
-    let mut ctx = ExecutionCtx::new(alloc, LocalName::new(b"a"), Namespace::Html, false);
-    for number in 0..3_000 {
-        assert!(rt; gathers(alloc, &mut ctx, number).is_ok(), "{number}");
-    }
-    assert!(rt; reports(&mut ctx, 3_000) && has_ranges(&ctx, 3_000));
-    Ok(())
+fn start_tags_gather_many_branches(rt: HostRuntime) {
+    let mut ctx = start_tag(rt.alloc());
+    gather_many(&rt, rt.alloc(), &mut ctx);
+    expect_holds(&rt, reports(&mut ctx, 3_000), 3_000);
+    expect_holds(&rt, has_ranges(&ctx, 3_000), 3_000);
+}
+
+fn gather(
+    alloc: Global,
+    ctx: &mut ExecutionCtx<'_, Numbered>,
+    branch: &ExecutionBranch,
+) -> Result<(), AllocError> {
+    ctx.add_execution_branch(alloc, branch)
 }
 
 /// Whether a new start tag that gathers a branch reports the ids below a number.
-fn gathers_all(alloc: Global, branch: &ExecutionBranch, count: u32) -> Result<bool, AllocError> {
-    let mut ctx = ExecutionCtx::new(alloc, LocalName::new(b"a"), Namespace::Html, false);
-    ctx.add_execution_branch(alloc, branch)?;
-    Ok(reports(&mut ctx, count))
+fn gathers_all(alloc: Global, branch: &ExecutionBranch, count: u32) -> bool {
+    let mut ctx = start_tag(alloc);
+    gather(alloc, &mut ctx, branch).is_ok() && reports(&mut ctx, count)
+}
+
+/// Gathers a branch of one id, of two, and so on to 2,500.
+fn gather_more(rt: &impl Abort, alloc: Global, branch: &mut ExecutionBranch) {
+    for count in 1..2_501 {
+        expect_holds(rt, gathers_all(alloc, branch, count), count as usize);
+        branch.matched_ids.insert(count).expect(rt, "memory");
+    }
 }
 
 /// A branch of 1 to 2,500 ids.
 #[test]
-fn start_tags_gather_many_ids(rt: HostRuntime) -> Result<(), Fail> {
-    let mut branch = branch(rt.alloc(), 0)?;
-    for count in 1..2_501 {
-        let gathered = gathers_all(rt.alloc(), &branch, count);
-        assert!(rt; gathered == Ok(true), "{count}");
-        branch.matched_ids.insert(count)?;
-    }
-    Ok(())
+fn start_tags_gather_many_ids(rt: HostRuntime) {
+    let mut branch = branch(rt.alloc(), 0).expect(&rt, "memory");
+    gather_more(&rt, rt.alloc(), &mut branch);
 }
 
 /// Whether the name of a number has counted so many at a level.
@@ -202,32 +229,54 @@ fn counts(
     is_counted(alloc, counters, number, level, count)
 }
 
-/// 3,000 names at a level, twice each.
-#[test]
-fn counters_are_of_many_names(rt: HostRuntime) -> Result<(), Fail> {
-    let mut counters = TypedChildCounterMap::new(rt.alloc());
+/// Whether so many names are counted, none of them above the first level.
+fn keeps(counters: &mut TypedChildCounterMap, count: usize) -> bool {
+    counters.kept().len() == count && counters.pop_to(0) == 0
+}
+
+/// Counts 3,000 names at a level, twice each.
+fn count_names(rt: &impl Abort, alloc: Global, counters: &mut TypedChildCounterMap) {
     for place in 0..6_000u32 {
         let count = if place < 3_000 { 1 } else { 2 };
-        let counted = counts(rt.alloc(), &mut counters, place % 3_000, 0, count);
-        assert!(rt; counted == Ok(true), "{place}");
+        let counted = counts(alloc, counters, place % 3_000, 0, count);
+        expect(rt, counted, place as usize);
     }
-    assert!(rt; counters.kept().len() == 3_000 && counters.pop_to(0) == 0);
-    Ok(())
+}
+
+/// 3,000 names at a level, twice each.
+#[test]
+fn counters_are_of_many_names(rt: HostRuntime) {
+    let mut counters = TypedChildCounterMap::new(rt.alloc());
+    count_names(&rt, rt.alloc(), &mut counters);
+    expect_holds(&rt, keeps(&mut counters, 3_000), 3_000);
+}
+
+/// Counts two children of a name at each of 3,000 levels.
+fn count_levels(rt: &impl Abort, alloc: Global, counters: &mut TypedChildCounterMap) {
+    for level in 0..3_000u32 {
+        let (number, at) = (level % 40, level as usize);
+        expect(rt, counts(alloc, counters, number, at, 1), at);
+        expect(rt, counts(alloc, counters, number, at, 2), at);
+    }
+}
+
+/// Leaves the levels above one, and says whether that was one, and those up to it are kept.
+fn leaves(counters: &mut TypedChildCounterMap, level: usize) -> bool {
+    counters.pop_to(level) == 1 && counters.kept().len() == level.saturating_add(1)
+}
+
+/// Leaves all levels but the first, from the last on.
+fn leave_levels(rt: &impl Abort, counters: &mut TypedChildCounterMap) {
+    for left in 0..2_999usize {
+        expect_holds(rt, leaves(counters, 2_998 - left), left);
+    }
 }
 
 /// 3,000 levels, of each of which one of 40 names has two children; then the levels are left, from the last on.
 #[test]
-fn counters_are_of_many_levels(rt: HostRuntime) -> Result<(), Fail> {
+fn counters_are_of_many_levels(rt: HostRuntime) {
     let mut counters = TypedChildCounterMap::new(rt.alloc());
-    for level in 0..3_000u32 {
-        let (number, at) = (level % 40, level as usize);
-        let first = counts(rt.alloc(), &mut counters, number, at, 1);
-        let second = counts(rt.alloc(), &mut counters, number, at, 2);
-        assert!(rt; first == Ok(true) && second == Ok(true), "{level}");
-    }
-    for left in 0..2_999usize {
-        assert!(rt; counters.pop_to(2_998 - left) == 1 && counters.kept().len() == 2_999 - left);
-    }
-    assert!(rt; is_counted(rt.alloc(), &counters, 0, 0, 2)?);
-    Ok(())
+    count_levels(&rt, rt.alloc(), &mut counters);
+    leave_levels(&rt, &mut counters);
+    expect(&rt, is_counted(rt.alloc(), &counters, 0, 0, 2), 0);
 }

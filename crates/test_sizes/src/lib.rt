@@ -21,6 +21,8 @@ mod scripts;
 #[cfg(test)]
 mod sets;
 #[cfg(test)]
+mod sizes;
+#[cfg(test)]
 mod stacks;
 #[cfg(test)]
 mod tests;

@@ -40,11 +40,9 @@ fn fill(
     ensures { list.new.item_bytes ≡ list.old.item_bytes }
 {
     for number in 0..count {
-        assert!(rt;
-            list.push(number, limiter).is_ok(),
-            "{number} of {item_bytes} bytes"
-        );
-        assert!(rt; is_filled(list, number.saturating_add(1), item_bytes, limiter));
+        let pushed = list.push(number, limiter).is_ok();
+        let filled = is_filled(list, number.saturating_add(1), item_bytes, limiter);
+        assert!(rt; pushed && filled, "{number} of {item_bytes} bytes");
     }
 }
 

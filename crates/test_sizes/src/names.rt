@@ -1,10 +1,11 @@
 //! Names of every length, and many names in a map.
 
+use crate::sizes::{drawn, expect};
 use lol_base::LocalName;
 use lol_name_map::NameMap;
 use std::alloc::{AllocError, Global};
-use std::test::Fail;
-use test_kit::{Random, name_of};
+use std::process::Abort;
+use test_kit::name_of;
 
 fn is_spelled(name: &LocalName<'_>, bytes: &[u8]) -> bool {
     name.spelling().is_some_and(|spelling| spelling == bytes)
@@ -18,17 +19,19 @@ fn are_spelled(alloc: Global, word: &[u8]) -> Result<bool, AllocError> {
     Ok(is_spelled(&copy, word) && is_spelled(&owned, word))
 }
 
+/// Goes over the names of 1 to 4,000 bytes that a word begins with.
+fn check_names(rt: &impl Abort, alloc: Global, word: &[u8]) {
+    for letters in 1..4_001 {
+        let name = word.get(..letters).unwrap_or(b"");
+        expect(rt, are_spelled(alloc, name), letters);
+    }
+}
+
 /// Names of 1 to 4,000 bytes: a `_`, with which no name is a hash, and letters that are drawn.
 #[test]
-fn names_of_every_length_are_copied(rt: HostRuntime) -> Result<(), Fail> {
-    let mut random = Random::new(1);
-    let mut word = String::from_str(rt.alloc(), "_")?;
-    for letters in 0..4_000u32 {
-        let spelled = are_spelled(rt.alloc(), word.as_bytes());
-        assert!(rt; spelled == Ok(true), "{letters}");
-        word.push(random.letter())?;
-    }
-    Ok(())
+fn names_of_every_length_are_copied(rt: HostRuntime) {
+    let word = drawn(&rt, rt.alloc(), 1, "_", 3_999);
+    check_names(&rt, rt.alloc(), word.as_bytes());
 }
 
 /// Gives the name of a number this number, and says whether it had none.
@@ -64,17 +67,24 @@ fn has_all(alloc: Global, map: &NameMap<u32>, first: u32) -> Result<bool, AllocE
     Ok(all)
 }
 
+/// Adds the names of every third number up to a bound, from this one on.
+fn add_all(rt: &impl Abort, alloc: Global, map: &mut NameMap<u32>, first: u32) {
+    for place in 0..3_000u32 {
+        let number = (3 * place).saturating_add(first);
+        expect(rt, adds(alloc, map, number), number as usize);
+    }
+}
+
+fn check_map(rt: &impl Abort, alloc: Global, first: u32) {
+    let mut map = NameMap::new(alloc);
+    add_all(rt, alloc, &mut map, first);
+    expect(rt, has_all(alloc, &map, first), first as usize);
+}
+
 /// 3,000 names, one after the other, in three maps.
 #[test]
-fn maps_take_many_names(rt: HostRuntime) -> Result<(), Fail> {
-    let alloc = rt.alloc();
+fn maps_take_many_names(rt: HostRuntime) {
     for first in 0..3 {
-        let mut map = NameMap::new(alloc);
-        for place in 0..3_000 {
-            let number = 3 * place + first;
-            assert!(rt; adds(alloc, &mut map, number) == Ok(true), "{number}");
-        }
-        assert!(rt; has_all(alloc, &map, first)?);
+        check_map(&rt, rt.alloc(), first);
     }
-    Ok(())
 }

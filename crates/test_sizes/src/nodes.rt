@@ -3,12 +3,12 @@
 ghost use Rattle.std.specs.Prelude.{◌≡◌};
 ghost use Rattle.lol_vm.specs.Vms.{slot_bytes};
 
+use crate::sizes::expect_holds;
 use lol_css::Selector;
 use lol_memory::{MatchInfo, SharedMemoryLimiter};
 use lol_vm::{LocalName, Namespace, SelectorMatchingVm};
 use std::alloc::Global;
 use std::process::Abort;
-use std::test::Fail;
 use test_kit::{Numbered, is_tried, name_of, node_selectors, tree_of};
 
 /// How many bytes an open element is charged for.
@@ -42,6 +42,23 @@ impl Ids {
     }
 }
 
+/// Tells a machine of a start tag, and says whether it answers.
+fn tell(
+    vm: &mut SelectorMatchingVm<Numbered>,
+    limiter: &mut SharedMemoryLimiter,
+    name: &[u8],
+    ids: &mut Ids,
+) -> bool
+    ensures { slot_bytes vm.new ≡ slot_bytes vm.old }
+{
+    let mut handler = |info: MatchInfo| {
+        ids.take(info);
+    };
+    let name = LocalName::new(name);
+    vm.exec_for_start_tag(name, Namespace::Html, limiter, &mut handler)
+        .is_ok()
+}
+
 /// Tells a machine of a start tag of the name of a number, and says whether it reports what it has to.
 fn starts(
     alloc: Global,
@@ -56,12 +73,8 @@ fn starts(
         return false;
     };
     let mut ids = Ids::of(number, nodes);
-    let mut handler = |info: MatchInfo| {
-        ids.take(info);
-    };
-    let name = LocalName::new(text.as_bytes());
-    let answered = vm.exec_for_start_tag(name, Namespace::Html, limiter, &mut handler);
-    answered.is_ok() && ids.are_taken()
+    let answered = tell(vm, limiter, text.as_bytes(), &mut ids);
+    answered && ids.are_taken()
 }
 
 /// Releases a machine.
@@ -75,37 +88,39 @@ fn release(rt: &impl Abort, vm: SelectorMatchingVm<Numbered>, limiter: &mut Shar
     assert!(rt; limiter.current_usage() == 0);
 }
 
+/// Makes a machine of the tree of these selectors.
+fn machine(rt: &impl Abort, alloc: Global, selectors: &[Selector]) -> SelectorMatchingVm<Numbered>
+    ensures { slot_bytes result ≡ 64 }
+{
+    let nodes = selectors.len();
+    let ast = tree_of(alloc, selectors).expect(rt, "memory");
+    let made = SelectorMatchingVm::new(alloc, ast, ITEM_BYTES, false);
+    expect_holds(rt, made.is_ok(), nodes);
+    made.expect(rt, "a machine")
+}
+
 /// Makes a machine of the tree of these selectors, and tells it of the names of two nodes, one under the other.
 fn drive(rt: &impl Abort, alloc: Global, selectors: &[Selector]) {
     let nodes = selectors.len();
-    let ast = tree_of(alloc, selectors).expect(rt, "memory");
     let mut limiter = SharedMemoryLimiter::new(512);
-    let made = SelectorMatchingVm::new(alloc, ast, ITEM_BYTES, false);
-    assert!(rt; made.is_ok(), "{nodes} nodes");
-    let mut vm = made.expect(rt, "a machine");
-    assert!(rt;
-        starts(alloc, &mut vm, &mut limiter, 0, nodes),
-        "{nodes} nodes"
-    );
-    assert!(rt;
-        starts(alloc, &mut vm, &mut limiter, 1, nodes),
-        "{nodes} nodes"
-    );
+    let mut vm = machine(rt, alloc, selectors);
+    let first = starts(alloc, &mut vm, &mut limiter, 0, nodes);
+    let second = starts(alloc, &mut vm, &mut limiter, 1, nodes);
+    expect_holds(rt, first && second, nodes);
     release(rt, vm, &mut limiter);
+}
+
+fn drive_all(rt: &impl Abort, alloc: Global, selectors: &[Selector]) {
+    for nodes in 0..5_001 {
+        if is_tried(nodes, 1_500) {
+            drive(rt, alloc, selectors.get(..nodes).unwrap_or(&[]));
+        }
+    }
 }
 
 /// Trees of up to 5,000 nodes, all numbers up to 1,500.
 #[test]
-fn machines_are_of_every_number_of_nodes(rt: HostRuntime) -> Result<(), Fail> {
-    let selectors = node_selectors(rt.alloc(), 5_000)?;
-    for nodes in 0..5_001 {
-        if is_tried(nodes, 1_500) {
-            drive(
-                &rt,
-                rt.alloc(),
-                selectors.as_slice().get(..nodes).unwrap_or(&[]),
-            );
-        }
-    }
-    Ok(())
+fn machines_are_of_every_number_of_nodes(rt: HostRuntime) {
+    let selectors = node_selectors(rt.alloc(), 5_000).expect(&rt, "memory");
+    drive_all(&rt, rt.alloc(), selectors.as_slice());
 }

@@ -4,7 +4,8 @@ ghost use Rattle.std.specs.Prelude.{All};
 ghost use Rattle.lol_examples.specs.Pages.{HasAttributesInside};
 ghost use Rattle.lol_vm.specs.Views.{HasRangesInside};
 
-use crate::documents::{Document, Wanted, Words, is_run, page_tag};
+use crate::documents::{Document, Wanted, Words, is_run, page_of};
+use crate::sizes::expect_of;
 use lol_examples::{PageTag, ids_of_run, ids_on_page};
 use lol_vm::{
     Ast, SelectorError, SharedMemoryLimiter, TagEvent, TagReport, match_each_event, match_events,
@@ -12,7 +13,6 @@ use lol_vm::{
 use plain_matcher::{PlainAnswer, plain_answers};
 use std::alloc::{AllocError, Global};
 use std::process::Abort;
-use std::test::Fail;
 use test_kit::selectors;
 
 /// How many bytes an open element is charged for, and the most bytes.
@@ -130,7 +130,11 @@ fn ast_of(alloc: Global, document: Document) -> Result<Ast, SelectorError> {
     selectors(alloc, document.selectors())
 }
 
-fn is_matched(alloc: Global, document: Document, events: &[TagEvent<'_>]) -> Result<bool, Fail>
+fn is_matched(
+    alloc: Global,
+    document: Document,
+    events: &[TagEvent<'_>],
+) -> Result<bool, SelectorError>
     requires { All HasRangesInside events.now }
 {
     Ok(match matched(alloc, ast_of(alloc, document)?, events) {
@@ -139,7 +143,11 @@ fn is_matched(alloc: Global, document: Document, events: &[TagEvent<'_>]) -> Res
     })
 }
 
-fn is_handed_out(alloc: Global, document: Document, events: &[TagEvent<'_>]) -> Result<bool, Fail>
+fn is_handed_out(
+    alloc: Global,
+    document: Document,
+    events: &[TagEvent<'_>],
+) -> Result<bool, SelectorError>
     requires { All HasRangesInside events.now }
 {
     let mut reported = Reported {
@@ -151,7 +159,11 @@ fn is_handed_out(alloc: Global, document: Document, events: &[TagEvent<'_>]) -> 
     Ok(answered && reported.are_wanted && reported.count == events.len())
 }
 
-fn is_plain(alloc: Global, document: Document, events: &[TagEvent<'_>]) -> Result<bool, Fail>
+fn is_plain(
+    alloc: Global,
+    document: Document,
+    events: &[TagEvent<'_>],
+) -> Result<bool, SelectorError>
     requires { All HasRangesInside events.now }
 {
     let ast = ast_of(alloc, document)?;
@@ -159,7 +171,11 @@ fn is_plain(alloc: Global, document: Document, events: &[TagEvent<'_>]) -> Resul
     Ok(told.len() == events.len() && are_told(&told, document))
 }
 
-fn has_ids(alloc: Global, document: Document, events: &[TagEvent<'_>]) -> Result<bool, Fail>
+fn has_ids(
+    alloc: Global,
+    document: Document,
+    events: &[TagEvent<'_>],
+) -> Result<bool, SelectorError>
     requires { All HasRangesInside events.now }
 {
     Ok(match ids(alloc, ast_of(alloc, document)?, events) {
@@ -168,22 +184,28 @@ fn has_ids(alloc: Global, document: Document, events: &[TagEvent<'_>]) -> Result
     })
 }
 
-fn is_page(alloc: Global, document: Document, page: &[PageTag<'_>]) -> Result<bool, Fail>
-    requires { All HasAttributesInside page.now }
+fn is_page(
+    alloc: Global,
+    document: Document,
+    events: &[TagEvent<'_>],
+) -> Result<bool, SelectorError>
+    requires { All HasRangesInside events.now }
 {
-    Ok(match page_ids(alloc, ast_of(alloc, document)?, page) {
-        Some(ids) => are_ids(&ids, document, page.len()),
+    let page = page_of(alloc, events)?;
+    Ok(match page_ids(alloc, ast_of(alloc, document)?, &page) {
+        Some(ids) => are_ids(&ids, document, events.len()),
         None => false,
     })
 }
 
 /// A call that answers events.
-#[derive(Debug, Clone, Copy)]
+#[derive(Clone, Copy)]
 enum Call {
     MatchEvents,
     MatchEachEvent,
     PlainAnswers,
     IdsOfRun,
+    IdsOnPage,
 }
 
 fn is_answered(
@@ -191,7 +213,7 @@ fn is_answered(
     call: Call,
     document: Document,
     events: &[TagEvent<'_>],
-) -> Result<bool, Fail>
+) -> Result<bool, SelectorError>
     requires { All HasRangesInside events.now }
 {
     match call {
@@ -199,91 +221,93 @@ fn is_answered(
         Call::MatchEachEvent => is_handed_out(alloc, document, events),
         Call::PlainAnswers => is_plain(alloc, document, events),
         Call::IdsOfRun => has_ids(alloc, document, events),
+        Call::IdsOnPage => is_page(alloc, document, events),
     }
 }
 
-/// Calls with each number of tags up to one that is tried.
-fn check(
+/// Calls with these tags, if so many are tried.
+fn check_run(
     rt: &impl Abort,
     alloc: Global,
     call: Call,
     document: Document,
-    most: usize,
-) -> Result<(), Fail> {
-    let words = Words::new(alloc)?;
-    let mut events = Vec::new(alloc);
-    for count in 0..most {
-        if is_run(document, count) {
-            let answered = is_answered(alloc, call, document, &events)?;
-            assert!(rt; answered, "{call:?}: {document:?}, {count}");
-        }
-        events.push(words.event(rt, document, count))?;
+    events: &[TagEvent<'_>],
+)
+    requires { All HasRangesInside events.now }
+{
+    let count = events.len();
+    if is_run(document, count) {
+        let answered = is_answered(alloc, call, document, events);
+        expect_of(rt, answered, document.name(), count);
     }
-    Ok(())
 }
 
-/// As `check`, tag by tag.
-fn check_pages(
+/// Calls with each number of tags of these words, up to one.
+fn check_with(
     rt: &impl Abort,
     alloc: Global,
-    document: Document,
+    words: &Words,
+    (call, document): (Call, Document),
     most: usize,
-) -> Result<(), Fail> {
-    let words = Words::new(alloc)?;
-    let mut page = Vec::new(alloc);
+) {
+    let mut events = Vec::new(alloc);
     for count in 0..most {
-        if is_run(document, count) {
-            assert!(rt; is_page(alloc, document, &page)?, "{document:?}, {count}");
-        }
-        page.push(page_tag(&words.event(rt, document, count)))?;
+        check_run(rt, alloc, call, document, &events);
+        let event = words.event(rt, document, count);
+        events.push(event).expect(rt, "memory");
     }
-    Ok(())
+}
+
+/// Calls with each number of tags up to one that is tried.
+fn check(rt: &impl Abort, alloc: Global, call: Call, document: Document, most: usize) {
+    let words = Words::new(alloc).expect(rt, "memory");
+    check_with(rt, alloc, &words, (call, document), most);
 }
 
 #[test]
-fn matched_events_are_of_every_number(rt: HostRuntime) -> Result<(), Fail> {
-    check(&rt, rt.alloc(), Call::MatchEvents, Document::Pairs, 20_001)?;
-    check(&rt, rt.alloc(), Call::MatchEvents, Document::Nested, 5_000)?;
-    check(&rt, rt.alloc(), Call::MatchEvents, Document::Waves, 20_001)
+fn matched_events_are_of_every_number(rt: HostRuntime) {
+    check(&rt, rt.alloc(), Call::MatchEvents, Document::Pairs, 20_001);
+    check(&rt, rt.alloc(), Call::MatchEvents, Document::Nested, 5_000);
+    check(&rt, rt.alloc(), Call::MatchEvents, Document::Waves, 20_001);
 }
 
 #[test]
-fn events_that_are_handed_out_are_of_every_number(rt: HostRuntime) -> Result<(), Fail> {
+fn events_that_are_handed_out_are_of_every_number(rt: HostRuntime) {
     check(
         &rt,
         rt.alloc(),
         Call::MatchEachEvent,
         Document::Pairs,
         20_001,
-    )?;
+    );
     check(
         &rt,
         rt.alloc(),
         Call::MatchEachEvent,
         Document::Nested,
         5_000,
-    )?;
+    );
     check(
         &rt,
         rt.alloc(),
         Call::MatchEachEvent,
         Document::Waves,
         20_001,
-    )
+    );
 }
 
 #[test]
-fn ids_of_runs_are_of_every_number(rt: HostRuntime) -> Result<(), Fail> {
-    check(&rt, rt.alloc(), Call::IdsOfRun, Document::Pairs, 20_001)
+fn ids_of_runs_are_of_every_number(rt: HostRuntime) {
+    check(&rt, rt.alloc(), Call::IdsOfRun, Document::Pairs, 20_001);
 }
 
 #[test]
-fn plain_answers_are_of_every_number(rt: HostRuntime) -> Result<(), Fail> {
-    check(&rt, rt.alloc(), Call::PlainAnswers, Document::Pairs, 5_001)
+fn plain_answers_are_of_every_number(rt: HostRuntime) {
+    check(&rt, rt.alloc(), Call::PlainAnswers, Document::Pairs, 5_001);
 }
 
 #[test]
-fn pages_are_of_every_number(rt: HostRuntime) -> Result<(), Fail> {
-    check_pages(&rt, rt.alloc(), Document::Pairs, 20_001)?;
-    check_pages(&rt, rt.alloc(), Document::Waves, 20_001)
+fn pages_are_of_every_number(rt: HostRuntime) {
+    check(&rt, rt.alloc(), Call::IdsOnPage, Document::Pairs, 20_001);
+    check(&rt, rt.alloc(), Call::IdsOnPage, Document::Waves, 20_001);
 }

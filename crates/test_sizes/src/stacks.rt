@@ -3,16 +3,38 @@
 ghost use Rattle.std.specs.Prelude.{◌≡◌};
 ghost use Rattle.lol_stack.specs.Stacks.{item_bytes_in};
 
+use crate::sizes::expect_holds;
 use lol_base::{LocalName, NthChild};
 use lol_memory::{PushError, SharedMemoryLimiter};
 use lol_stack::{Stack, StackItem, StackItemOf};
 use std::alloc::{AllocError, Global};
 use std::process::Abort;
-use std::test::Fail;
 use test_kit::{Numbered, name_of};
 
 /// How many bytes an open element is charged for.
 const ITEM_BYTES: usize = 64;
+
+/// An element with the name of a number.
+fn named(alloc: Global, number: u32) -> Result<StackItem<'static, Numbered>, AllocError> {
+    let name = name_of(alloc, number)?;
+    let item: StackItem<Numbered> = StackItemOf::new(alloc, LocalName::new(name.as_bytes()));
+    item.into_owned(alloc)
+}
+
+/// Gives an element so many ranges, each of one place from the first on.
+fn push_ranges(
+    alloc: Global,
+    item: &mut StackItem<'static, Numbered>,
+    first: usize,
+    ranges: usize,
+) -> Result<(), AllocError> {
+    for range in 0..ranges {
+        let start = first.saturating_add(range);
+        item.hereditary_jumps
+            .push(alloc, start..start.saturating_add(1))?;
+    }
+    Ok(())
+}
 
 /// An element with the name of a number, and so many ranges, each of one place from the first on.
 fn item(
@@ -21,15 +43,9 @@ fn item(
     first: usize,
     ranges: usize,
 ) -> Result<StackItem<'static, Numbered>, AllocError> {
-    let name = name_of(alloc, number)?;
-    let item: StackItem<Numbered> = StackItemOf::new(alloc, LocalName::new(name.as_bytes()));
-    let mut item = item.into_owned(alloc)?;
+    let mut item = named(alloc, number)?;
     item.element_data.value = number as usize;
-    for range in 0..ranges {
-        let start = first.saturating_add(range);
-        item.hereditary_jumps
-            .push(alloc, start..start.saturating_add(1))?;
-    }
+    push_ranges(alloc, &mut item, first, ranges)?;
     Ok(item)
 }
 
@@ -104,15 +120,37 @@ fn release(rt: &impl Abort, stack: Stack<Numbered>, limiter: &mut SharedMemoryLi
     assert!(rt; limiter.current_usage() == 0);
 }
 
+/// Whether an element of a name is open at this place, and at no other.
+fn is_open_at(stack: &Stack<Numbered>, name: &[u8], place: usize) -> bool {
+    match stack.open_places(&LocalName::new(name)) {
+        [only] => *only == place,
+        _ => false,
+    }
+}
+
 /// Whether so many elements are open, and the last is at the only place of its name, that of its number.
 fn has_open(alloc: Global, stack: &Stack<Numbered>, count: u32) -> Result<bool, AllocError> {
     let last = count.saturating_sub(1);
     let name = name_of(alloc, last)?;
-    let places = stack.open_places(&LocalName::new(name.as_bytes()));
-    Ok(stack.items().len() == count as usize && places == [last as usize].as_slice())
+    Ok(stack.items().len() == count as usize && is_open_at(stack, name.as_bytes(), last as usize))
 }
 
-/// Counts and opens one element inside the other, with names that differ. Each brings one range.
+/// Counts and opens the element of a number, which brings one range, and says whether it is then the last.
+fn opens(
+    alloc: Global,
+    stack: &mut Stack<Numbered>,
+    limiter: &mut SharedMemoryLimiter,
+    by_type: i32,
+    number: u32,
+) -> bool
+    ensures { item_bytes_in stack.new ≡ item_bytes_in stack.old }
+{
+    let counted = counts(alloc, stack, number, 1, by_type);
+    let opened = open(alloc, stack, limiter, number, number as usize, 1).is_ok();
+    counted && opened && has_open(alloc, stack, number.saturating_add(1)) == Ok(true)
+}
+
+/// Counts and opens one element inside the other, with names that differ.
 fn open_all(
     rt: &impl Abort,
     alloc: Global,
@@ -124,10 +162,8 @@ fn open_all(
     ensures { item_bytes_in stack.new ≡ item_bytes_in stack.old }
 {
     for number in 0..depth {
-        assert!(rt; counts(alloc, stack, number, 1, by_type), "{number}");
-        let opened = open(alloc, stack, limiter, number, number as usize, 1);
-        assert!(rt; opened.is_ok(), "{number}");
-        assert!(rt; has_open(alloc, stack, number.saturating_add(1)) == Ok(true));
+        let opened = opens(alloc, stack, limiter, by_type, number);
+        expect_holds(rt, opened, number as usize);
     }
 }
 
@@ -139,25 +175,29 @@ fn are_active(stack: &Stack<Numbered>, count: usize) -> bool {
         && ranges.all(|(at, (range, place))| *range == (at..at.saturating_add(1)) && *place == at)
 }
 
+/// Closes half of 3,000 elements, and says whether the others' ranges are left.
+fn close_half(alloc: Global, stack: &mut Stack<Numbered>) -> bool
+    ensures { item_bytes_in stack.new ≡ item_bytes_in stack.old }
+{
+    let were_active = are_active(stack, 3_000);
+    let closed = closes(alloc, stack, 1_500, 1_500);
+    were_active && closed && are_active(stack, 1_500)
+}
+
+fn open_and_close(rt: &impl Abort, alloc: Global, by_type: bool) {
+    let mut limiter = SharedMemoryLimiter::new(1_000_000);
+    let mut stack = Stack::new(alloc, ITEM_BYTES, by_type);
+    let counted = i32::from(by_type);
+    open_all(rt, alloc, &mut stack, &mut limiter, counted, 3_000);
+    expect_holds(rt, close_half(alloc, &mut stack), 3_000);
+    release(rt, stack, &mut limiter);
+}
+
 /// 3,000 open elements, with and without counters by type; half of them are closed at once, and the others one by one.
 #[test]
 fn elements_are_opened_to_every_depth(rt: HostRuntime) {
-    let alloc = rt.alloc();
-    for by_type in [false, true] {
-        let mut limiter = SharedMemoryLimiter::new(1_000_000);
-        let mut stack = Stack::new(alloc, ITEM_BYTES, by_type);
-        open_all(
-            &rt,
-            alloc,
-            &mut stack,
-            &mut limiter,
-            i32::from(by_type),
-            3_000,
-        );
-        assert!(rt; are_active(&stack, 3_000));
-        assert!(rt; closes(alloc, &mut stack, 1_500, 1_500) && are_active(&stack, 1_500));
-        release(&rt, stack, &mut limiter);
-    }
+    open_and_close(&rt, rt.alloc(), false);
+    open_and_close(&rt, rt.alloc(), true);
 }
 
 /// Counts children of one element: 3,000 names, twice each.
@@ -192,6 +232,21 @@ fn has_ranges(stack: &Stack<Numbered>, count: usize) -> bool {
     active.len() == count && stack.items().len() == 1
 }
 
+/// Opens an element with so many ranges, closes it, and says whether both were as they have to be.
+fn opens_and_closes(
+    alloc: Global,
+    stack: &mut Stack<Numbered>,
+    limiter: &mut SharedMemoryLimiter,
+    ranges: usize,
+) -> bool
+    ensures { item_bytes_in stack.new ≡ item_bytes_in stack.old }
+{
+    let opened = open(alloc, stack, limiter, 0, 0, ranges).is_ok();
+    let has_all = has_ranges(stack, ranges);
+    let closed = closes(alloc, stack, 0, 1);
+    opened && has_all && closed
+}
+
 /// Opens an element with each number of ranges up to one, and closes it.
 fn open_with_ranges(
     rt: &impl Abort,
@@ -203,9 +258,8 @@ fn open_with_ranges(
     ensures { item_bytes_in stack.new ≡ item_bytes_in stack.old }
 {
     for ranges in 0..most {
-        let opened = open(alloc, stack, limiter, 0, 0, ranges);
-        assert!(rt; opened.is_ok() && has_ranges(stack, ranges), "{ranges}");
-        assert!(rt; closes(alloc, stack, 0, 1));
+        let closed = opens_and_closes(alloc, stack, limiter, ranges);
+        expect_holds(rt, closed, ranges);
     }
 }
 

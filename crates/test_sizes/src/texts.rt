@@ -1,12 +1,12 @@
 //! Texts of selectors: names and values of every length, lists, compounds and steps of every number, and progressions.
 
+use crate::sizes::{beginning, drawn, expect, expect_of, repeated};
 use lol_css::{
     Combinator, Compound, CssString, NthChild, Selector, SelectorError, SelectorList,
     SelectorsParser, SimpleSelector,
 };
 use std::alloc::{AllocError, Global};
 use std::process::Abort;
-use std::test::Fail;
 use test_kit::{Random, is_tried, name_of};
 
 /// Whether a string and its copy have this text.
@@ -16,16 +16,18 @@ fn is_kept(alloc: Global, text: &str) -> Result<bool, AllocError> {
     Ok(string.as_str() == text && copy.as_str() == text)
 }
 
+/// Goes over the texts of 0 to 4,000 letters that a text begins with.
+fn check_kept(rt: &impl Abort, alloc: Global, text: &str) {
+    for letters in 0..4_001 {
+        expect(rt, is_kept(alloc, beginning(text, letters)), letters);
+    }
+}
+
 /// Texts of 0 to 4,000 letters.
 #[test]
-fn strings_of_every_length_are_copied(rt: HostRuntime) -> Result<(), Fail> {
-    let mut random = Random::new(5);
-    let mut text = String::new(rt.alloc());
-    for letters in 0..4_001u32 {
-        assert!(rt; is_kept(rt.alloc(), text.as_str()) == Ok(true), "{letters}");
-        text.push(random.letter())?;
-    }
-    Ok(())
+fn strings_of_every_length_are_copied(rt: HostRuntime) {
+    let text = drawn(&rt, rt.alloc(), 5, "", 4_000);
+    check_kept(&rt, rt.alloc(), text.as_str());
 }
 
 /// What the parser reads.
@@ -97,30 +99,36 @@ fn is_part(
     Ok(read == wanted)
 }
 
-/// Whether a word between two texts is read as the part of this place.
-fn is_read(alloc: Global, place: usize, word: &str) -> Result<bool, Fail> {
-    let text = text_of(alloc, place, word)?;
-    let list = parsed(alloc, text.as_str())?;
-    Ok(is_part(alloc, &list, place, word)? && is_selector_of(alloc, text.as_str(), &list)?)
+/// Whether a text is read as the part of this place with this word.
+fn is_read_as(alloc: Global, text: &str, place: usize, word: &str) -> Result<bool, SelectorError> {
+    let list = parsed(alloc, text)?;
+    Ok(is_part(alloc, &list, place, word)? && is_selector_of(alloc, text, &list)?)
 }
 
-fn expect_read(rt: &impl Abort, alloc: Global, word: &str) -> Result<(), Fail> {
+/// Whether a word between two texts is read as the part of this place.
+fn is_read(alloc: Global, place: usize, word: &str) -> Result<bool, SelectorError> {
+    let text = text_of(alloc, place, word)?;
+    is_read_as(alloc, text.as_str(), place, word)
+}
+
+fn expect_read(rt: &impl Abort, alloc: Global, word: &str) {
     for place in 0..5 {
-        assert!(rt; is_read(alloc, place, word)?, "{place}: {word}");
+        expect_of(rt, is_read(alloc, place, word), word, place);
     }
-    Ok(())
+}
+
+/// Goes over the words of 1 to 500 letters that a word begins with.
+fn check_words(rt: &impl Abort, alloc: Global, word: &str) {
+    for letters in 1..501 {
+        expect_read(rt, alloc, beginning(word, letters));
+    }
 }
 
 /// Words of 1 to 500 letters, in parts of each kind.
 #[test]
-fn words_of_every_length_are_read(rt: HostRuntime) -> Result<(), Fail> {
-    let mut random = Random::new(6);
-    let mut word = String::new(rt.alloc());
-    for _letters in 0..500u32 {
-        word.push(random.letter())?;
-        expect_read(&rt, rt.alloc(), word.as_str())?;
-    }
-    Ok(())
+fn words_of_every_length_are_read(rt: HostRuntime) {
+    let word = drawn(&rt, rt.alloc(), 6, "", 500);
+    check_words(&rt, rt.alloc(), word.as_str());
 }
 
 /// How compounds of one part, or parts, are joined in a text.
@@ -187,42 +195,44 @@ fn has(list: &SelectorList, joined: Joined, count: usize) -> bool {
     }
 }
 
-fn whole_of(alloc: Global, text: &str, end: &str) -> Result<String, AllocError> {
-    format!(in alloc; "{text}{end}")
-}
-
-/// Whether a text with an end is read as so many compounds or parts.
+/// Whether a text is read as so many compounds or parts.
 fn are_read(
     alloc: Global,
     text: &str,
-    end: &str,
     joined: Joined,
     count: usize,
-) -> Result<bool, Fail> {
-    let whole = whole_of(alloc, text, end)?;
-    let list = parsed(alloc, whole.as_str())?;
-    Ok(has(&list, joined, count) && is_selector_of(alloc, whole.as_str(), &list)?)
+) -> Result<bool, SelectorError> {
+    let list = parsed(alloc, text)?;
+    Ok(has(&list, joined, count) && is_selector_of(alloc, text, &list)?)
 }
 
-fn expect_joined(rt: &impl Abort, alloc: Global, join: &Join) -> Result<(), Fail> {
-    let (first, next, end, joined, most) = *join;
-    let mut text = String::from_str(alloc, first)?;
-    for place in 0..most {
-        let count = place.saturating_add(1);
-        let read = !is_tried(count, 500) || are_read(alloc, text.as_str(), end, joined, count)?;
-        assert!(rt; read, "{first}: {count}");
-        text.push_str(next)?;
+/// Whether the text of so many compounds or parts is read, if so many are tried.
+fn is_joined(alloc: Global, join: &Join, count: usize) -> Result<bool, SelectorError> {
+    if !is_tried(count, 500) {
+        return Ok(true);
     }
-    Ok(())
+    let (first, next, end, joined, _) = *join;
+    let text = repeated(alloc, (first, next, end), count)?;
+    are_read(alloc, text.as_str(), joined, count)
+}
+
+fn expect_joined(rt: &impl Abort, alloc: Global, join: &Join) {
+    for place in 0..join.4 {
+        let count = place.saturating_add(1);
+        expect_of(rt, is_joined(alloc, join, count), join.0, count);
+    }
+}
+
+fn expect_all_joined(rt: &impl Abort, alloc: Global, joins: &[Join]) {
+    for join in joins {
+        expect_joined(rt, alloc, join);
+    }
 }
 
 /// Up to 2,050 items, parts, and compounds inside `:not`, and up to 1,024 steps.
 #[test]
-fn texts_of_every_number_are_read(rt: HostRuntime) -> Result<(), Fail> {
-    for join in &JOINED {
-        expect_joined(&rt, rt.alloc(), join)?;
-    }
-    Ok(())
+fn texts_of_every_number_are_read(rt: HostRuntime) {
+    expect_all_joined(&rt, rt.alloc(), &JOINED);
 }
 
 fn progression_text(
@@ -240,7 +250,12 @@ fn is_nth(list: &SelectorList, of_type: bool, nth: NthChild) -> bool {
 }
 
 /// Whether the progression of two numbers is read.
-fn is_progression(alloc: Global, step: i32, offset: i32, of_type: bool) -> Result<bool, Fail> {
+fn is_progression(
+    alloc: Global,
+    step: i32,
+    offset: i32,
+    of_type: bool,
+) -> Result<bool, SelectorError> {
     let text = progression_text(alloc, step, offset, of_type)?;
     let list = parsed(alloc, text.as_str())?;
     let is_read = is_nth(&list, of_type, NthChild::new(step, offset));
@@ -259,27 +274,28 @@ fn number(random: &mut Random) -> i32 {
 
 /// 4,000 progressions.
 #[test]
-fn progressions_are_read(rt: HostRuntime) -> Result<(), Fail> {
+fn progressions_are_read(rt: HostRuntime) {
     let mut random = Random::new(7);
-    for place in 0..4_000u32 {
+    for place in 0..4_000 {
         let (step, offset) = (number(&mut random), number(&mut random));
-        let read = is_progression(rt.alloc(), step, offset, place % 2 == 0)?;
-        assert!(rt; read, "{step}n{offset}");
+        expect(
+            &rt,
+            is_progression(rt.alloc(), step, offset, place % 2 == 0),
+            place,
+        );
     }
-    Ok(())
 }
 
 /// Whether the name of a number is read.
-fn is_name_read(alloc: Global, number: u32) -> Result<bool, Fail> {
+fn is_name_read(alloc: Global, number: u32) -> Result<bool, SelectorError> {
     let name = name_of(alloc, number)?;
     is_read(alloc, 0, name.as_str())
 }
 
 /// 4,000 names.
 #[test]
-fn many_names_are_read(rt: HostRuntime) -> Result<(), Fail> {
+fn many_names_are_read(rt: HostRuntime) {
     for number in 0..4_000 {
-        assert!(rt; is_name_read(rt.alloc(), number)?, "{number}");
+        expect(&rt, is_name_read(rt.alloc(), number), number as usize);
     }
-    Ok(())
 }
