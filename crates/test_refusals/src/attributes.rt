@@ -21,39 +21,50 @@ fn is_class(input: &[u8], outline: &AttributeOutline, value: &[u8]) -> bool {
     stands_at(input, outline.name, b"class") && has_value
 }
 
-/// Whether these are classes with these values, in order.
-fn are_classes(attributes: &Attributes, values: &[&[u8]]) -> bool {
+/// Whether these are classes with the long value.
+fn are_long(input: &[u8], outlines: &[AttributeOutline]) -> bool {
+    for outline in outlines {
+        if !is_class(input, outline, LONG) {
+            return false;
+        }
+    }
+    true
+}
+
+/// Whether these are classes: the first has the value `a`, and after it come so many with the long one.
+fn are_classes(attributes: &Attributes, longs: usize) -> bool {
     let info = attributes.aux_info(false);
     let input = info.input.as_slice();
-    info.attr_buffer.len() == values.len()
-        && info
-            .attr_buffer
-            .iter()
-            .zip(values)
-            .all(|(outline, value)| is_class(input, outline, value))
+    match info.attr_buffer.as_slice() {
+        [first, rest @ ..] => {
+            rest.len() == longs && is_class(input, first, b"a") && are_long(input, rest)
+        }
+        [] => false,
+    }
 }
 
 /// Adds four attributes to one; refused, those before stand.
 pub(crate) fn attributes_push(alloc: Global) -> Result<Met, Stop> {
     let mut attributes = attribute(alloc, b"class", b"a")?;
-    let values: [&[u8]; 5] = [b"a", LONG, LONG, LONG, LONG];
+    push_all(&mut attributes)
+}
+
+fn push_all(attributes: &mut Attributes) -> Result<Met, Stop> {
     let mut met = Met::Nothing;
-    for count in 1..5 {
-        if push_in_turn(&mut attributes, &values[..count])? == Met::Refusal {
-            met = Met::Refusal;
-        }
-        expect(are_classes(&attributes, &values[..=count]))?;
+    for longs in 0..4usize {
+        met = met.and(push_in_turn(attributes, longs)?);
+        expect(are_classes(attributes, longs.saturating_add(1)))?;
     }
     Ok(met)
 }
 
-/// Adds a long value to these, again after a refusal.
-fn push_in_turn(attributes: &mut Attributes, values: &[&[u8]]) -> Result<Met, Stop> {
+/// Adds a long value after so many, again after a refusal.
+fn push_in_turn(attributes: &mut Attributes, longs: usize) -> Result<Met, Stop> {
     for met in TURNS {
         if attributes.push(b"class", Some(LONG)).is_ok() {
             return Ok(met);
         }
-        expect(are_classes(attributes, values))?;
+        expect(are_classes(attributes, longs))?;
     }
     Err(Stop::Wrong)
 }

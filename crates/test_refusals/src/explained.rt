@@ -15,12 +15,17 @@ pub(crate) fn explained(alloc: Global) -> Result<Met, Stop> {
     let mut texts = Texts::new(alloc);
     let added = add_in_turn(alloc, &mut texts)?;
     let (numbering, numbered) = number_in_turn(&texts)?;
+    let given = explain_numbered(alloc, numbering)?;
+    Ok(added.and(numbered).and(given))
+}
+
+/// Makes a machine of the numbered items, and asks it for the reasons.
+fn explain_numbered(alloc: Global, numbering: Numbering) -> Result<Met, Stop> {
     let Numbering { ast, mut explainer } = numbering;
     let mut vm = Machine::new(alloc, ast, ITEM_BYTES, false)?;
     let given = explain(&mut vm, &mut explainer);
     vm.discard();
-    let met = [added, numbered, given?].contains(&Met::Refusal);
-    Ok(if met { Met::Refusal } else { Met::Nothing })
+    given
 }
 
 /// Makes the table of the machine's program, tells of the tags, and asks for the reasons.
@@ -28,11 +33,7 @@ fn explain(vm: &mut Machine, explainer: &mut Explainer) -> Result<Met, Stop> {
     let indexed = index_in_turn(explainer, vm)?;
     tell(vm)?;
     let given = reasons_in_turn(explainer, vm)?;
-    Ok(if indexed == Met::Refusal {
-        indexed
-    } else {
-        given
-    })
+    Ok(indexed.and(given))
 }
 
 fn add_in_turn(alloc: Global, texts: &mut Texts) -> Result<Met, Stop> {
@@ -67,24 +68,25 @@ fn index_in_turn(explainer: &mut Explainer, vm: &Machine) -> Result<Met, Stop> {
 /// Tells a machine of the two start tags; the memory is the scenario's own.
 fn tell(vm: &mut Machine) -> Result<(), Stop> {
     let mut limiter = SharedMemoryLimiter::new(1_000_000);
+    start(vm, &mut limiter, b"div")?;
+    start(vm, &mut limiter, b"p")
+}
+
+fn start(vm: &mut Machine, limiter: &mut SharedMemoryLimiter, name: &[u8]) -> Result<(), Stop> {
     let mut handler = |_: MatchInfo| {};
-    for name in [b"div".as_slice(), b"p"] {
-        let name = LocalName::new(name);
-        match vm.exec_for_start_tag(name, Namespace::Html, &mut limiter, &mut handler) {
-            Ok(()) => (),
-            Err(VmError::Memory(_)) => return Err(Stop::Own),
-            Err(_) => return Err(Stop::Wrong),
-        }
+    let name = LocalName::new(name);
+    match vm.exec_for_start_tag(name, Namespace::Html, limiter, &mut handler) {
+        Ok(()) => Ok(()),
+        Err(VmError::Memory(_)) => Err(Stop::Own),
+        Err(_) => Err(Stop::Wrong),
     }
-    Ok(())
 }
 
 /// The reasons for the second tag, which both items match.
 fn reasons_in_turn(explainer: &Explainer, vm: &Machine) -> Result<Met, Stop> {
     for met in TURNS {
         if let Ok(reasons) = explainer.reasons(vm, &[0, 1], 1, &[0]) {
-            expect(are_both(&reasons))?;
-            return Ok(met);
+            return met.if_holds(are_both(&reasons));
         }
     }
     Err(Stop::Wrong)

@@ -1,6 +1,7 @@
 //! The life of a matcher that explains.
 
 use crate::explained::are_both;
+use crate::lists::are_ids;
 use crate::outcome::{Met, Stop, TURNS, expect};
 use lol_explaining_matcher::{ExplainingMatcher, ExplainingMatcherBuilder};
 use lol_matcher::{AddError, Attributes, MatcherError, Namespace};
@@ -12,16 +13,22 @@ use std::alloc::Global;
 pub(crate) fn explaining_matcher(alloc: Global) -> Result<Met, Stop> {
     let mut builder = ExplainingMatcher::builder(alloc);
     let added = add_in_turn(&mut builder)?;
-    let mut matcher = match builder.build() {
-        Ok(matcher) => matcher,
+    let told = build_and_tell(alloc, builder)?;
+    Ok(added.and(told))
+}
+
+fn built(builder: ExplainingMatcherBuilder) -> Result<ExplainingMatcher, NumberingError> {
+    builder.build()
+}
+
+fn build_and_tell(alloc: Global, builder: ExplainingMatcherBuilder) -> Result<Met, Stop> {
+    match built(builder) {
+        Ok(mut matcher) => tell(alloc, &mut matcher),
         Err(error) => {
             expect(error == NumberingError::Memory)?;
-            return Ok(Met::Refusal);
+            Ok(Met::Refusal)
         }
-    };
-    let told = tell(alloc, &mut matcher)?;
-    let met = [added, told].contains(&Met::Refusal);
-    Ok(if met { Met::Refusal } else { Met::Nothing })
+    }
 }
 
 fn add_in_turn(builder: &mut ExplainingMatcherBuilder) -> Result<Met, Stop> {
@@ -37,16 +44,33 @@ fn add_in_turn(builder: &mut ExplainingMatcherBuilder) -> Result<Met, Stop> {
 /// Tells of the tags, up to one that memory is refused for, and asks why the second is reported.
 fn tell(alloc: Global, matcher: &mut ExplainingMatcher) -> Result<Met, Stop> {
     let none = Attributes::new(alloc);
-    for name in [b"div".as_slice(), b"p"] {
-        if let Err(error) = matcher.start_with(name, Namespace::Html, none.aux_info(false)) {
-            return stuck(matcher, error);
-        }
+    let started = start_both(matcher, &none);
+    match started {
+        Ok(()) => explain_in_turn(matcher),
+        Err(error) => stuck(matcher, error),
     }
+}
+
+/// Tells of `div` and, if there was memory, of `p`.
+fn start_both(matcher: &mut ExplainingMatcher, none: &Attributes) -> Result<(), MatcherError> {
+    start(matcher, b"div", none)?;
+    start(matcher, b"p", none)
+}
+
+fn start(
+    matcher: &mut ExplainingMatcher,
+    name: &[u8],
+    none: &Attributes,
+) -> Result<(), MatcherError> {
+    matcher.start_with(name, Namespace::Html, none.aux_info(false))
+}
+
+/// Asks why the second tag is reported, again after a refusal.
+fn explain_in_turn(matcher: &ExplainingMatcher) -> Result<Met, Stop> {
     expect(has_ids(matcher, &[7]))?;
     for met in TURNS {
         if let Ok(reasons) = matcher.explain() {
-            expect(are_both(&reasons) && has_ids(matcher, &[7]))?;
-            return Ok(met);
+            return met.if_holds(are_both(&reasons) && has_ids(matcher, &[7]));
         }
     }
     Err(Stop::Wrong)
@@ -63,9 +87,5 @@ fn stuck(matcher: &ExplainingMatcher, error: MatcherError) -> Result<Met, Stop> 
 }
 
 fn has_ids(matcher: &ExplainingMatcher, ids: &[u32]) -> bool {
-    matcher
-        .matches()
-        .iter()
-        .map(|info| info.match_id)
-        .eq(ids.iter().copied())
+    are_ids(matcher.matches(), ids)
 }

@@ -4,7 +4,7 @@ ghost use Rattle.std.specs.Prelude.{◌≡◌};
 
 use crate::element::ITEM_BYTES;
 use crate::outcome::{Met, Stop, TURNS, expect};
-use lol_vm::{DenseHashSet, LimitedVec, SharedMemoryLimiter};
+use lol_vm::{DenseHashSet, LimitedVec, MatchInfo, SharedMemoryLimiter};
 use std::alloc::{AllocError, Global};
 
 pub(crate) fn set_of(alloc: Global, ids: &[u32]) -> Result<DenseHashSet, AllocError> {
@@ -25,6 +25,16 @@ pub(crate) fn has(set: &DenseHashSet, ids: &[u32]) -> bool {
     set.iter().eq(ids.iter().copied())
 }
 
+/// Whether exactly these ids are reported, in order.
+pub(crate) fn are_ids(matched: &[MatchInfo], ids: &[u32]) -> bool {
+    for (info, id) in matched.iter().zip(ids) {
+        if info.match_id != *id {
+            return false;
+        }
+    }
+    matched.len() == ids.len()
+}
+
 pub(crate) fn insert(alloc: Global) -> Result<Met, Stop> {
     let mut set = set_of(alloc, &[33, 70])?;
     insert_in_turn(&mut set)
@@ -33,8 +43,7 @@ pub(crate) fn insert(alloc: Global) -> Result<Met, Stop> {
 fn insert_in_turn(set: &mut DenseHashSet) -> Result<Met, Stop> {
     for met in TURNS {
         if set.insert(1000).is_ok() {
-            expect(has(set, &[33, 70, 1000]))?;
-            return Ok(met);
+            return met.if_holds(has(set, &[33, 70, 1000]));
         }
         expect(has(set, &[33, 70]))?;
     }
@@ -52,27 +61,36 @@ const UNIONS: [Union; 3] = [
 ];
 
 pub(crate) fn union(alloc: Global) -> Result<Met, Stop> {
+    unite_all(alloc, &UNIONS)
+}
+
+fn unite_all(alloc: Global, rows: &[Union]) -> Result<Met, Stop> {
     let mut met = Met::Nothing;
-    for row in &UNIONS {
-        if united_in_turn(alloc, row)? == Met::Refusal {
-            met = Met::Refusal;
-        }
+    for row in rows {
+        met = met.and(unite(alloc, row)?);
     }
     Ok(met)
 }
 
-fn united_in_turn(alloc: Global, row: &Union) -> Result<Met, Stop> {
+fn unite(alloc: Global, row: &Union) -> Result<Met, Stop> {
+    let mut set = set_of(alloc, row.0)?;
+    let other = set_of(alloc, row.1)?;
+    unite_in_turn(&mut set, &other, row)
+}
+
+fn unite_in_turn(set: &mut DenseHashSet, other: &DenseHashSet, row: &Union) -> Result<Met, Stop> {
     let (ids, others, both) = *row;
-    let mut set = set_of(alloc, ids)?;
-    let other = set_of(alloc, others)?;
     for met in TURNS {
-        if set.union(&other).is_ok() {
-            expect(has(&set, both))?;
-            return Ok(met);
+        if joins(set, other) {
+            return met.if_holds(has(set, both));
         }
-        expect(has(&set, ids) && has(&other, others))?;
+        expect(has(set, ids) && has(other, others))?;
     }
     Err(Stop::Wrong)
+}
+
+fn joins(set: &mut DenseHashSet, other: &DenseHashSet) -> bool {
+    set.union(other).is_ok()
 }
 
 pub(crate) fn set_try_clone(alloc: Global) -> Result<Met, Stop> {
@@ -83,8 +101,7 @@ pub(crate) fn set_try_clone(alloc: Global) -> Result<Met, Stop> {
 fn clone_in_turn(set: &DenseHashSet) -> Result<Met, Stop> {
     for met in TURNS {
         if let Ok(is_equal) = equals_its_copy(set) {
-            expect(is_equal)?;
-            return Ok(met);
+            return met.if_holds(is_equal);
         }
         expect(has(set, &[33, 70]))?;
     }
@@ -107,12 +124,12 @@ pub(crate) fn small_sets(alloc: Global) -> Result<Met, Stop> {
 
 fn small_sets_are_right(alloc: Global) -> Result<bool, AllocError> {
     let mut set = set_of(alloc, &[0, 31])?;
-    unite(alloc, &mut set, &[7, 31])?;
+    join(alloc, &mut set, &[7, 31])?;
     let copy = set.try_clone()?;
     Ok(has(&set, &[0, 7, 31]) && copy == set)
 }
 
-fn unite(alloc: Global, set: &mut DenseHashSet, ids: &[u32]) -> Result<(), AllocError> {
+fn join(alloc: Global, set: &mut DenseHashSet, ids: &[u32]) -> Result<(), AllocError> {
     let other = set_of(alloc, ids)?;
     set.union(&other)
 }
@@ -134,9 +151,7 @@ fn fill(list: &mut LimitedVec<usize>, limiter: &mut SharedMemoryLimiter) -> Resu
 {
     let mut met = Met::Nothing;
     for number in 0..300usize {
-        if pushed(list, number, limiter)? == Met::Refusal {
-            met = Met::Refusal;
-        }
+        met = met.and(pushed(list, number, limiter)?);
     }
     Ok(met)
 }

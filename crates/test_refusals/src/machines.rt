@@ -16,7 +16,7 @@ use std::alloc::Global;
 type Machine = SelectorMatchingVm<Element>;
 
 /// What a machine says of a start tag.
-#[derive(Debug, Clone, Copy, PartialEq, Eq)]
+#[derive(Clone, Copy, PartialEq, Eq)]
 enum Said {
     Unasked,
     Asked,
@@ -122,9 +122,22 @@ fn tell_both(
     requires none { RangesAreInside none }
     ensures { slot_bytes vm.new ≡ slot_bytes vm.old }
 {
-    if !tell_div(vm, limiter, class)? {
-        return stuck(vm, limiter, none, 0, 100);
+    if tell_div(vm, limiter, class)? {
+        tell_second(vm, limiter, none)
+    } else {
+        stuck(vm, limiter, none, 0, 100)
     }
+}
+
+/// Tells a machine of the second start tag, and of the end tag of the first.
+fn tell_second(
+    vm: &mut Machine,
+    limiter: &mut SharedMemoryLimiter,
+    none: AuxStartTagInfo<'_>,
+) -> Result<Met, Stop>
+    requires { RangesAreInside none }
+    ensures { slot_bytes vm.new ≡ slot_bytes vm.old }
+{
     expect(limiter.current_usage() == 228)?;
     if !tell_p(vm, limiter, none)? {
         return stuck(vm, limiter, none, 1, 228);
@@ -182,18 +195,38 @@ fn stuck(
     requires { RangesAreInside none }
     ensures { slot_bytes vm.new ≡ slot_bytes vm.old }
 {
-    expect(limiter.current_usage() == usage && fails(vm, limiter, b"p", none))?;
-    expect(fails(vm, limiter, b"br", none) && limiter.current_usage() == usage)?;
-    let is_open = vm.current_element_data_mut().is_some();
+    let had_usage = limiter.current_usage() == usage;
+    let failed = fail_both(vm, limiter, none);
+    expect(had_usage && failed && limiter.current_usage() == usage)?;
+    let is_open = has_element(vm);
     expect(is_open == (open_elements > 0) && ends_act(vm, open_elements))?;
     Ok(Met::Refusal)
+}
+
+fn has_element(vm: &mut Machine) -> bool
+    ensures { slot_bytes vm.new ≡ slot_bytes vm.old }
+{
+    vm.current_element_data_mut().is_some()
+}
+
+/// Whether the start tags of `p` and `br` are answered `Failed`.
+fn fail_both(vm: &mut Machine, limiter: &mut SharedMemoryLimiter, none: AuxStartTagInfo<'_>) -> bool
+    requires { RangesAreInside none }
+    ensures { slot_bytes vm.new ≡ slot_bytes vm.old }
+{
+    let first = fails(vm, limiter, b"p", none);
+    let second = fails(vm, limiter, b"br", none);
+    first && second
 }
 
 /// Whether the end tags of `p` and `div` close the open elements, which have no ids.
 fn ends_act(vm: &mut Machine, open_elements: u32) -> bool
     ensures { slot_bytes vm.new ≡ slot_bytes vm.old }
 {
-    closes(vm, b"p", 0, &[]) && closes(vm, b"div", open_elements, &[]) && closes(vm, b"div", 0, &[])
+    let first = closes(vm, b"p", 0, &[]);
+    let second = closes(vm, b"div", open_elements, &[]);
+    let third = closes(vm, b"div", 0, &[]);
+    first && second && third
 }
 
 /// Whether a start tag is answered `Failed`, and nothing is reported of it.
@@ -212,7 +245,9 @@ fn fails(
 }
 
 /// Two selectors, the first of which a `br` meets, and what a machine of them says of it.
-const VOID: [(&str, &str, Said); 2] = [
+type Void = (&'static str, &'static str, Said);
+
+const VOID: [Void; 2] = [
     ("br:first-child", "p:nth-child(2)", Said::Unasked),
     (".a", "div > .a", Said::Asked),
 ];
@@ -220,13 +255,13 @@ const VOID: [(&str, &str, Said); 2] = [
 /// A start tag `br` asks for no memory at all, nor does its finishing: a refusal is wrong here once the machine is made.
 pub(crate) fn void_tags(alloc: Global) -> Result<Met, Stop> {
     let class = attribute(alloc, b"class", b"a")?;
-    tell_void_tags(alloc, class.aux_info(false))
+    tell_void_tags(alloc, class.aux_info(false), &VOID)
 }
 
-fn tell_void_tags(alloc: Global, class: AuxStartTagInfo<'_>) -> Result<Met, Stop>
+fn tell_void_tags(alloc: Global, class: AuxStartTagInfo<'_>, rows: &[Void]) -> Result<Met, Stop>
     requires { RangesAreInside class }
 {
-    for (first, second, said) in &VOID {
+    for (first, second, said) in rows {
         let ast = two(alloc, first, second)?;
         tell_new_of_void(alloc, ast, class, *said)?;
     }

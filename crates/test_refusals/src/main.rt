@@ -24,45 +24,14 @@ use std::io::Read;
 use std::process::ExitCode;
 
 /// The names of the scenarios.
-const NAMES: [&str; 37] = [
-    "from_str",
-    "css_string",
-    "to_boxed_slice",
-    "from_simple",
-    "add_selector",
-    "add_selector_refused",
-    "compile",
-    "new",
-    "start_tags",
-    "void_tags",
-    "match_events",
-    "run",
-    "insert",
-    "union",
-    "set_try_clone",
-    "small_sets",
-    "push",
-    "push_item",
-    "stack_add_child",
-    "map_add_child",
-    "add_execution_branch",
-    "name_into_owned",
-    "name_try_clone",
-    "item_into_owned",
-    "context_into_owned",
-    "short_names",
-    "owned_names",
-    "match_events_by_type",
-    "run_of_a_bad_line",
-    "run_past_the_limit",
-    "attributes_push",
-    "matcher",
-    "explained",
-    "run_explained",
-    "explaining_matcher",
-    "match_events_with_rows",
-    "run_with_rows",
-];
+const NAMES: &str = "
+    from_str css_string to_boxed_slice from_simple add_selector add_selector_refused compile new
+    start_tags void_tags match_events run insert union set_try_clone small_sets push push_item
+    stack_add_child map_add_child add_execution_branch name_into_owned name_try_clone
+    item_into_owned context_into_owned short_names owned_names match_events_by_type
+    run_of_a_bad_line run_past_the_limit attributes_push matcher explained run_explained
+    explaining_matcher match_events_with_rows run_with_rows
+";
 
 fn main(rt: HostRuntime) -> ExitCode {
     let mut buffer = [0u8; 64];
@@ -70,13 +39,18 @@ fn main(rt: HostRuntime) -> ExitCode {
         return ExitCode::from(4);
     };
     let wanted = buffer[..count].trim_ascii();
+    ExitCode::from(run_wanted(&rt, rt.alloc(), wanted))
+}
+
+/// Runs the scenario of a name, or all where there is none: the status of the last.
+fn run_wanted(rt: &impl Print, alloc: Global, wanted: &[u8]) -> u8 {
     let mut status = 0;
-    for name in NAMES {
+    for name in NAMES.split_whitespace() {
         if wanted.is_empty() || wanted == name.as_bytes() {
-            status = told(&rt, name, scenario(rt.alloc(), name));
+            status = told(rt, name, scenario(alloc, name));
         }
     }
-    ExitCode::from(status)
+    status
 }
 
 /// Tells how a scenario ended: 0 where no request was refused, 3 where one was, 5 where it was one of the scenario's own, 1 where

@@ -1,12 +1,13 @@
 //! The life of a matcher.
 
+use crate::lists::are_ids;
 use crate::outcome::{Met, Stop, TURNS, expect};
 use crate::trees::attribute;
 use lol_matcher::{
     AddError, Attributes, ErrorLocation, Matcher, MatcherBuilder, MatcherError, Namespace,
     SelectorError,
 };
-use std::alloc::Global;
+use std::alloc::{AllocError, Global};
 
 /// A matcher with a number for each open element.
 type Counting = Matcher<u32>;
@@ -17,15 +18,27 @@ type Counting = Matcher<u32>;
 pub(crate) fn matcher(alloc: Global) -> Result<Met, Stop> {
     let class = attribute(alloc, b"class", b"a")?;
     let mut builder = Matcher::builder(alloc);
-    let first = add_in_turn(&mut builder, 0, ".a p")?;
-    let refused = refuse_in_turn(&mut builder)?;
-    let second = add_in_turn(&mut builder, 1, "p")?;
-    let Ok(mut matcher) = builder.build_with_values::<u32>() else {
-        return Ok(Met::Refusal);
-    };
-    let told = tell(&mut matcher, &class)?;
-    let met = [first, refused, second, told].contains(&Met::Refusal);
-    Ok(if met { Met::Refusal } else { Met::Nothing })
+    let added = add_all(&mut builder)?;
+    let told = build_and_tell(builder, &class)?;
+    Ok(added.and(told))
+}
+
+fn add_all(builder: &mut MatcherBuilder) -> Result<Met, Stop> {
+    let first = add_in_turn(builder, 0, ".a p")?;
+    let refused = refuse_in_turn(builder)?;
+    let second = add_in_turn(builder, 1, "p")?;
+    Ok(first.and(refused).and(second))
+}
+
+fn built(builder: MatcherBuilder) -> Result<Counting, AllocError> {
+    builder.build_with_values()
+}
+
+fn build_and_tell(builder: MatcherBuilder, class: &Attributes) -> Result<Met, Stop> {
+    match built(builder) {
+        Ok(mut matcher) => tell(&mut matcher, class),
+        Err(_) => Ok(Met::Refusal),
+    }
 }
 
 fn add_in_turn(builder: &mut MatcherBuilder, id: u32, text: &str) -> Result<Met, Stop> {
@@ -55,19 +68,29 @@ fn refuse_in_turn(builder: &mut MatcherBuilder) -> Result<Met, Stop> {
 
 /// Tells of the tags, up to one that memory is refused for.
 fn tell(matcher: &mut Counting, class: &Attributes) -> Result<Met, Stop> {
-    if let Err(error) = matcher.start_with(b"div", Namespace::Html, class.aux_info(false)) {
+    if let Err(error) = start(matcher, b"div", class) {
         return stuck(matcher, class, error, &[]);
     }
-    expect(has_ids(matcher, &[]) && matcher.has_opened())?;
-    expect(matcher.replace_value(Some(1)).is_none())?;
-    if let Err(error) = matcher.start_with(b"p", Namespace::Html, class.aux_info(false)) {
+    expect(has_opened(matcher, &[], 1))?;
+    if let Err(error) = start(matcher, b"p", class) {
         return stuck(matcher, class, error, &[1]);
     }
-    expect(has_ids(matcher, &[0, 1]) && matcher.has_opened())?;
-    expect(matcher.replace_value(Some(2)).is_none())?;
-    expect(hands_out(matcher, &[1, 2]))?;
-    expect(has_ids(matcher, &[]) && !matcher.has_failed())?;
+    expect(has_opened(matcher, &[0, 1], 2) && has_closed(matcher))?;
     Ok(Met::Nothing)
+}
+
+fn start(matcher: &mut Counting, name: &[u8], class: &Attributes) -> Result<(), MatcherError> {
+    matcher.start_with(name, Namespace::Html, class.aux_info(false))
+}
+
+/// Whether these ids are reported of an element that was opened and has no value; it is given one.
+fn has_opened(matcher: &mut Counting, ids: &[u32], value: u32) -> bool {
+    has_ids(matcher, ids) && matcher.has_opened() && matcher.replace_value(Some(value)).is_none()
+}
+
+/// Closes both elements: whether their values are handed out, and nothing is reported.
+fn has_closed(matcher: &mut Counting) -> bool {
+    hands_out(matcher, &[1, 2]) && has_ids(matcher, &[]) && !matcher.has_failed()
 }
 
 /// What stands after a refusal.
@@ -77,11 +100,21 @@ fn stuck(
     error: MatcherError,
     values: &[u32],
 ) -> Result<Met, Stop> {
-    expect(error == MatcherError::Memory && matcher.has_failed() && has_ids(matcher, &[]))?;
-    expect(matcher.start(b"br", Namespace::Html) == Err(MatcherError::Failed))?;
-    expect(matcher.finish(class.aux_info(false)) == Err(MatcherError::Failed))?;
-    expect(hands_out(matcher, values) && matcher.has_failed() && has_ids(matcher, &[]))?;
+    expect(error == MatcherError::Memory && has_nothing(matcher))?;
+    expect(answers_failed(matcher, class))?;
+    expect(hands_out(matcher, values) && has_nothing(matcher))?;
     Ok(Met::Refusal)
+}
+
+/// Whether a matcher has failed, and reports nothing.
+fn has_nothing(matcher: &Counting) -> bool {
+    matcher.has_failed() && has_ids(matcher, &[])
+}
+
+/// Whether a start tag and its finishing are answered `Failed`.
+fn answers_failed(matcher: &mut Counting, class: &Attributes) -> bool {
+    matcher.start(b"br", Namespace::Html) == Err(MatcherError::Failed)
+        && matcher.finish(class.aux_info(false)) == Err(MatcherError::Failed)
 }
 
 /// The values of the elements that an end tag closed, from the outermost inwards.
@@ -117,9 +150,5 @@ fn hands_out(matcher: &mut Counting, values: &[u32]) -> bool {
 }
 
 fn has_ids(matcher: &Counting, ids: &[u32]) -> bool {
-    matcher
-        .matches()
-        .iter()
-        .map(|info| info.match_id)
-        .eq(ids.iter().copied())
+    are_ids(matcher.matches(), ids)
 }

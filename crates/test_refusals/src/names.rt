@@ -32,8 +32,7 @@ pub(crate) fn name_try_clone(alloc: Global) -> Result<Met, Stop> {
 fn clone_in_turn(alloc: Global, name: &LocalName<'_>) -> Result<Met, Stop> {
     for met in TURNS {
         if let Ok(is_equal) = equals_its_copy(alloc, name) {
-            expect(is_equal)?;
-            return Ok(met);
+            return met.if_holds(is_equal);
         }
         expect(is_long(name))?;
     }

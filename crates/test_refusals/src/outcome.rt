@@ -3,7 +3,7 @@
 use std::alloc::AllocError;
 
 /// What a scenario met whose answers were all as they have to be.
-#[derive(Debug, Clone, Copy, PartialEq, Eq)]
+#[derive(Clone, Copy, PartialEq, Eq)]
 pub(crate) enum Met {
     /// No request was refused.
     Nothing,
@@ -12,11 +12,26 @@ pub(crate) enum Met {
     Refusal,
 }
 
+impl Met {
+    /// What was met, where an answer is exact.
+    pub(crate) fn if_holds(self, holds: bool) -> Result<Met, Stop> {
+        if holds { Ok(self) } else { Err(Stop::Wrong) }
+    }
+
+    /// What two calls met together.
+    pub(crate) fn and(self, other: Met) -> Met {
+        match self {
+            Met::Nothing => other,
+            Met::Refusal => Met::Refusal,
+        }
+    }
+}
+
 /// What a call meets that is made again after a refusal.
 pub(crate) const TURNS: [Met; 2] = [Met::Nothing, Met::Refusal];
 
 /// Why a scenario stops early.
-#[derive(Debug, Clone, Copy, PartialEq, Eq)]
+#[derive(Clone, Copy)]
 pub(crate) enum Stop {
     /// A request of the scenario's own was refused.
     Own,

@@ -3,6 +3,7 @@
 ghost use Rattle.std.specs.Prelude.{◌≡◌, All};
 ghost use Rattle.lol_vm.specs.Views.{HasRangesInside};
 
+use crate::lists::are_ids;
 use crate::outcome::{Met, Stop, expect};
 use crate::trees::{add, two};
 use lol_script::{Counted, RunFault, Status, run};
@@ -10,7 +11,7 @@ use lol_vm::{
     Ast, Attributes, Namespace, RunCause, RunRefusal, SharedMemoryLimiter, TagEvent, TagReport,
     match_events,
 };
-use std::alloc::Global;
+use std::alloc::{AllocError, Global};
 use std::io;
 use std::io::Write;
 
@@ -30,26 +31,30 @@ pub(crate) fn start<'i>(name: &'i [u8], attributes: &'i Attributes) -> TagEvent<
 fn is_report(report: &TagReport, ids: &[u32], asked_for: bool) -> bool {
     match report {
         TagReport::Started { matched, asked, .. } => {
-            *asked == asked_for
-                && matched
-                    .iter()
-                    .map(|info| info.match_id)
-                    .eq(ids.iter().copied())
+            *asked == asked_for && are_ids(matched, ids)
         }
         TagReport::Dropped => false,
-        TagReport::Ended { closed } => {
-            closed.iter().copied().eq(ids.iter().map(|id| *id as usize))
+        TagReport::Ended { closed } => are_places(closed, ids),
+    }
+}
+
+fn are_places(closed: &[usize], places: &[u32]) -> bool {
+    for (closed, place) in closed.iter().zip(places) {
+        if *closed != *place as usize {
+            return false;
         }
     }
+    closed.len() == places.len()
 }
 
 /// Whether reports are a beginning of those that are wanted.
 fn begin(reports: &[TagReport], wanted: &[(&[u32], bool)]) -> bool {
+    for (report, (ids, asked)) in reports.iter().zip(wanted) {
+        if !is_report(report, ids, *asked) {
+            return false;
+        }
+    }
     reports.len() <= wanted.len()
-        && reports
-            .iter()
-            .zip(wanted)
-            .all(|(report, (ids, asked))| is_report(report, ids, *asked))
 }
 
 /// Answers tags, and stops where the reports aren't those that are wanted. A refusal is the scenario's own.
@@ -61,7 +66,10 @@ pub(crate) fn matches_in_turn(
 ) -> Result<(), Stop>
     requires { All HasRangesInside events.now }
 {
-    expect(answered(alloc, ast, events, wanted)? == Met::Nothing).map_err(|_| Stop::Own)
+    match answered(alloc, ast, events, wanted)? {
+        Met::Nothing => Ok(()),
+        Met::Refusal => Err(Stop::Own),
+    }
 }
 
 /// Answers tags over a limiter with some usage: whether memory was refused. Then the reports are a beginning.
@@ -172,13 +180,23 @@ fn add_letters(alloc: Global, ast: &mut Ast, sign: u8) -> Result<(), Stop> {
     Ok(())
 }
 
+/// The attributes of the tag of `with_rows`.
+fn titled(alloc: Global) -> Result<Attributes, AllocError> {
+    let mut attributes = Attributes::new(alloc);
+    push_titled(&mut attributes)?;
+    Ok(attributes)
+}
+
+fn push_titled(attributes: &mut Attributes) -> Result<(), AllocError> {
+    attributes.push(b"class", Some(b"d c"))?;
+    attributes.push(b"id", Some(b"z"))?;
+    attributes.push(b"title", Some(b"a text"))
+}
+
 /// A tag whose keys are looked up among so many that a look at each would take longer. What is looked up needs memory, but the tag isn't
 /// refused for it.
 pub(crate) fn with_rows(alloc: Global) -> Result<bool, Stop> {
-    let mut attributes = Attributes::new(alloc);
-    attributes.push(b"class", Some(b"d c"))?;
-    attributes.push(b"id", Some(b"z"))?;
-    attributes.push(b"title", Some(b"a text"))?;
+    let attributes = titled(alloc)?;
     let events = [start(b"p", &attributes), TagEvent::End { name: b"p" }];
     let wanted: [(&[u32], bool); 2] = [(&[7, 99, 100, 122], true), (&[0], false)];
     Ok(answered(alloc, letters(alloc)?, &events, &wanted)? == Met::Nothing)

@@ -65,8 +65,7 @@ pub(crate) fn to_boxed_slice(alloc: Global) -> Result<Met, Stop> {
 fn copy_in_turn(alloc: Global, text: &CssString) -> Result<Met, Stop> {
     for met in TURNS {
         if let Ok(is_div) = copies_div(alloc, text) {
-            expect(is_div)?;
-            return Ok(met);
+            return met.if_holds(is_div);
         }
         expect(text.as_str() == "div")?;
     }
@@ -86,8 +85,7 @@ pub(crate) fn from_simple(alloc: Global) -> Result<Met, Stop> {
 fn from_simple_in_turn(alloc: Global, part: &SimpleSelector) -> Result<Met, Stop> {
     for met in TURNS {
         if let Ok(is_div) = tells_name_div(alloc, part) {
-            expect(is_div)?;
-            return Ok(met);
+            return met.if_holds(is_div);
         }
     }
     Err(Stop::Wrong)

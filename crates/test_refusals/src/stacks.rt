@@ -12,8 +12,10 @@ use lol_vm::{
 };
 use std::alloc::{AllocError, Global};
 
-/// The names of elements, the second of which is no hash.
-const NAMES: [&[u8]; 3] = [b"div", b"Abcdefghijklm", b"div"];
+/// The name of the element of a number: each third is no hash.
+fn name_of(number: usize) -> &'static [u8] {
+    if number % 3 == 1 { LONG } else { b"div" }
+}
 
 /// An element with two hereditary ranges, one of them its own.
 fn item(
@@ -57,9 +59,7 @@ fn open_all(
 {
     let mut met = Met::Nothing;
     for number in 0..130usize {
-        if opened(alloc, stack, number, limiter)? == Met::Refusal {
-            met = Met::Refusal;
-        }
+        met = met.and(opened(alloc, stack, number, limiter)?);
     }
     Ok(met)
 }
@@ -73,16 +73,29 @@ fn opened(
 ) -> Result<Met, Stop>
     ensures { item_bytes_in stack.new ≡ item_bytes_in stack.old }
 {
-    let name = NAMES[number % 3];
-    let mut met = Met::Nothing;
-    let before = State::of(stack, name, limiter);
-    if !pushed(alloc, stack, name, number, limiter)? {
-        expect(State::of(stack, name, limiter) == before)?;
-        expect(pushed(alloc, stack, name, number, limiter)?)?;
-        met = Met::Refusal;
-    }
+    let name = name_of(number);
+    let met = push_in_turn(alloc, stack, name, number, limiter)?;
     expect(is_last(stack, name, number))?;
     Ok(met)
+}
+
+/// Pushes an element, a second time where memory is refused first.
+fn push_in_turn(
+    alloc: Global,
+    stack: &mut Stack<Element>,
+    name: &'static [u8],
+    number: usize,
+    limiter: &mut SharedMemoryLimiter,
+) -> Result<Met, Stop>
+    ensures { item_bytes_in stack.new ≡ item_bytes_in stack.old }
+{
+    let before = State::of(stack, name, limiter);
+    if pushed(alloc, stack, name, number, limiter)? {
+        return Ok(Met::Nothing);
+    }
+    expect(State::of(stack, name, limiter) == before)?;
+    expect(pushed(alloc, stack, name, number, limiter)?)?;
+    Ok(Met::Refusal)
 }
 
 /// Whether an element is the last, and its ranges and its place are the last ones.
@@ -171,9 +184,7 @@ fn count_all(stack: &mut Stack<Element>) -> Result<Met, Stop>
 {
     let mut met = Met::Nothing;
     for (name, before, typed) in [(b"div".as_slice(), 0, 0), (LONG, 1, 0), (LONG, 2, 1)] {
-        if counted(stack, &LocalName::new(name), before, typed)? == Met::Refusal {
-            met = Met::Refusal;
-        }
+        met = met.and(counted(stack, &LocalName::new(name), before, typed)?);
     }
     Ok(met)
 }
@@ -234,17 +245,18 @@ const CHILDREN: [(&[u8], usize, usize); 5] = [
 /// Counters by type at three levels.
 pub(crate) fn map_add_child(alloc: Global) -> Result<Met, Stop> {
     let mut counters = TypedChildCounterMap::new(alloc);
-    let met = count_children(&mut counters)?;
+    let met = count_children(&mut counters, &CHILDREN)?;
     expect(are_counted(&mut counters))?;
     Ok(met)
 }
 
-fn count_children(counters: &mut TypedChildCounterMap) -> Result<Met, Stop> {
+fn count_children(
+    counters: &mut TypedChildCounterMap,
+    children: &[(&[u8], usize, usize)],
+) -> Result<Met, Stop> {
     let mut met = Met::Nothing;
-    for (name, level, kept) in &CHILDREN {
-        if child_counted(counters, name, *level, *kept)? == Met::Refusal {
-            met = Met::Refusal;
-        }
+    for (name, level, kept) in children {
+        met = met.and(child_counted(counters, name, *level, *kept)?);
     }
     Ok(met)
 }
@@ -335,8 +347,7 @@ fn add_in_turn(
 ) -> Result<Met, Stop> {
     for met in TURNS {
         if ctx.add_execution_branch(alloc, second).is_ok() {
-            expect(are_both(ctx))?;
-            return Ok(met);
+            return met.if_holds(are_both(ctx));
         }
         expect(gathered_are(ctx, &[3, 40], 1))?;
     }

@@ -95,8 +95,7 @@ fn add_both_in_turn(alloc: Global, ast: &mut Ast) -> Result<Met, Stop> {
 fn add_in_turn(ast: &mut Ast, second: &Selector) -> Result<Met, Stop> {
     for met in TURNS {
         if ast.add_selector(second, 1).is_ok() {
-            expect(are_all_pairs(ast))?;
-            return Ok(met);
+            return met.if_holds(are_all_pairs(ast));
         }
         expect(are_first_pairs(ast))?;
     }
