@@ -1,5 +1,5 @@
 -- From what is read to what is accepted.
-use Rattle.std.proofs.Common.{◌≡◌, ℕ, ◌⊎◌, inl, inr, false, List, Ok, Err, IfOk, IfErr, refl}
+use Rattle.std.proofs.Common.{◌≡◌, ℕ, ◌⊎◌, inl, inr, false, List, Ok, Err, IfOk, IfErr, refl, ap}
 use Rattle.std.specs.Str.{chars}
 use Rattle.lol_css.specs.Points.{preprocessed}
 use Rattle.lol_css.specs.Tokens.{Token, tokens_of}
@@ -7,7 +7,7 @@ use Rattle.lol_css.specs.Trees as trees
 use Rattle.lol_css.specs.Drafts.{DraftItems}
 use Rattle.lol_css.specs.Rules.{Read, refused, giving, Outside}
 use Rattle.lol_css.specs.Reading.{selector, list, inner_list}
-use Rattle.lol_css.specs.Accepting.{judged, accept}
+use Rattle.lol_css.specs.Accepting.{judged, with_cause, accept}
 use Rattle.lol_css.specs.Judging.{Judged}
 use Rattle.lol_css.specs.Views.{FailsUnlessMemory, judgement}
 use Rattle.lol_css.specs.TreeViews.{list_of}
@@ -33,19 +33,19 @@ accept_fails_of text cause left (inr e) = inr (accept_err text cause left (givin
 pub accept-fails : (text : List ℕ) (cause : SelectorError) (left : List Token) → FailsUnlessMemory cause left (read_whole text) → (cause ≡ Memory) ⊎ (accept text ≡ Err cause)
 accept-fails text cause left h = accept_fails_of text cause left (fails_cases cause left (read_whole text) h)
 
-accept_read : (text : List ℕ) (draft : DraftItems) (rest : List Token) (found : Judged trees.Items) → list (inner_list 128) Outside (tokens_of (preprocessed (chars text))) ≡ Ok (draft, rest) → judged false draft ≡ found → accept text ≡ found
+accept_read : (text : List ℕ) (draft : DraftItems) (rest : List Token) (found : Judged trees.Items) → list (inner_list 128) Outside (tokens_of (preprocessed (chars text))) ≡ Ok (draft, rest) → judged false draft ≡ found → accept text ≡ with_cause found
 unfolding accept selector
-accept_read text draft rest found e g = rw e g
+accept_read text draft rest found e g = rw e (ap (λ (j : Judged trees.Items). with_cause j) g)
 
-pub accept-read : (text : List ℕ) (found : Judged trees.Items) (rest : List Token) → read_whole text ≡ Ok (found, rest) → accept text ≡ found
+pub accept-read : (text : List ℕ) (found : Judged trees.Items) (rest : List Token) → read_whole text ≡ Ok (found, rest) → accept text ≡ with_cause found
 accept-read text found rest e =
     let f = giving-ok (judged false) (list (inner_list 128) Outside (tokens_of (preprocessed (chars text)))) found rest e in
     accept_read text f.x rest found f.is f.gives
 
-pub accepts : (text : List ℕ) (found : late.Judged SelectorList) → accept text ≡ judgement list_of found → IfOk (judgement (λ selector. selector) found) (λ selector. accept text ≡ Ok (list_of selector))
+pub accepts : (text : List ℕ) (found : late.Judged SelectorList) → accept text ≡ with_cause (judgement list_of found) → IfOk (with_cause (judgement (λ selector. selector) found)) (λ selector. accept text ≡ Ok (list_of selector))
 accepts text (Kept selector) e = e
-accepts text (Refused cause) e = tt
+accepts text (Refused refusal) e = tt
 
-pub refuses : (text : List ℕ) (found : late.Judged SelectorList) → accept text ≡ judgement list_of found → IfErr (judgement (λ selector. selector) found) (λ cause. (cause ≡ Memory) ⊎ (accept text ≡ Err cause))
+pub refuses : (text : List ℕ) (found : late.Judged SelectorList) → accept text ≡ with_cause (judgement list_of found) → IfErr (with_cause (judgement (λ selector. selector) found)) (λ cause. (cause ≡ Memory) ⊎ (accept text ≡ Err cause))
 refuses text (Kept selector) e = tt
-refuses text (Refused cause) e = inr e
+refuses text (Refused refusal) e = inr e

@@ -4,7 +4,7 @@ use Rattle.std.specs.Option.{option_map}
 use Rattle.std.specs.Str.{byte}
 use Rattle.lol_css.specs.Tokens.{Token, Delim}
 use Rattle.lol_css.specs.Trees as trees
-use Rattle.lol_css.specs.Drafts.{Step, DraftPart, Logical, DraftCompound, Nothing, With, DraftItem, First, Then, DraftItems, NoItems, And}
+use Rattle.lol_css.specs.Drafts.{PlacedStep, DraftPart, Logical, DraftCompound, Nothing, With, DraftItem, First, Then, DraftItems, NoItems, And}
 use Rattle.lol_css.specs.Rules.{Refusal, Read, refused, ◌>>=◌, giving, skip_space, Nesting, InFunction, at_end}
 use Rattle.lol_css.specs.Reading.{class_name, pseudo, part, parts_at_most, more_parts, type_part, is_nothing, compound, next_step, further, item, items_at_most, list, inner_list}
 use Rattle.lol_css.specs.Accepting.{judged_step, combination_part, judged_part, judged_compound, judged_item, judged}
@@ -257,7 +257,7 @@ pub item-fails : (inner : List Token → Read DraftItems) (nesting : Nesting) (i
 item-fails inner nesting inside tokens cause left h =
     fails-along cause left (giving judged_compound (compound inner nesting errors.EmptySelector (skip_space tokens))) (giving (judged_item inside) (item inner nesting tokens)) (λ e. item_err inner nesting inside tokens cause left (giving-err judged_compound (compound inner nesting errors.EmptySelector (skip_space tokens)) cause left e)) h
 
-no_step : (inside : Bool) (o : Option Step) → option_map (judged_step inside) o ≡ None → o ≡ None
+no_step : (inside : Bool) (o : Option PlacedStep) → option_map (judged_step inside) o ≡ None → o ≡ None
 no_step inside None e = refl
 no_step inside (Some x) e = absurd cc
 
@@ -270,7 +270,7 @@ further_stop_of (suc room) inner nesting inside front tokens rest e = rw e refl
 pub further-stops : (room : ℕ) (inner : List Token → Read DraftItems) (nesting : Nesting) (inside : Bool) (front : Judged trees.Item) (tokens rest : List Token) → giving (option_map (judged_step inside)) (next_step nesting tokens) ≡ Ok (None, rest) → judged_further room inner nesting inside front tokens ≡ Ok (front, rest)
 further-stops room inner nesting inside front tokens rest e =
     let f = giving-ok (option_map (judged_step inside)) (next_step nesting tokens) None rest e in
-    further_stop_of room inner nesting inside front tokens rest (f.is ∙ ap (λ (o : Option Step). Ok (o, rest)) (no_step inside f.x f.gives))
+    further_stop_of room inner nesting inside front tokens rest (f.is ∙ ap (λ (o : Option PlacedStep). Ok (o, rest)) (no_step inside f.x f.gives))
 
 further_err : (room : ℕ) (inner : List Token → Read DraftItems) (nesting : Nesting) (inside : Bool) (front : Judged trees.Item) (tokens : List Token) (cause : SelectorError) (left : List Token) → next_step nesting tokens ≡ refused cause left → judged_further room inner nesting inside front tokens ≡ refused cause left
 unfolding judged_further
@@ -282,11 +282,11 @@ further-fails room inner nesting inside front tokens cause left e = further_err 
 
 -- a step was read
 pub record StepRead (nesting : Nesting) (inside : Bool) (tokens : List Token) (step : Judged Combinator) (rest : List Token) : Type 0 where
-  pub draft : Step
+  pub draft : PlacedStep
   pub is : next_step nesting tokens ≡ Ok (Some draft, rest)
   pub gives : judged_step inside draft ≡ step
 
-step_read_of : (o : Option Step) (nesting : Nesting) (inside : Bool) (tokens : List Token) (step : Judged Combinator) (rest : List Token) → next_step nesting tokens ≡ Ok (o, rest) → option_map (judged_step inside) o ≡ Some step → StepRead nesting inside tokens step rest
+step_read_of : (o : Option PlacedStep) (nesting : Nesting) (inside : Bool) (tokens : List Token) (step : Judged Combinator) (rest : List Token) → next_step nesting tokens ≡ Ok (o, rest) → option_map (judged_step inside) o ≡ Some step → StepRead nesting inside tokens step rest
 step_read_of None nesting inside tokens step rest e g = absurd cc
 step_read_of (Some draft) nesting inside tokens step rest e g = record { draft = draft; is = e; gives = cc }
 

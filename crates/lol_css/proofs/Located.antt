@@ -1,5 +1,5 @@
 -- A text has a location exactly where it isn't accepted, and an offset lies in the text.
-use Rattle.std.proofs.Common.{◌≡◌, ℕ, zero, suc, ◌+◌, ◌-◌, ◌≤◌, Bool, true, false, cond, eqb, ◌&&◌, List, [], ◌∷◌, ◌++◌, map, length, get_or, drop, Option, Some, None, IsNone, IfSome, IsSomeAnd, Ok, Err, IfErr, is_ok, IsOk, refl, sym, ap, ◌∙◌, arith, length-append, length-drop}
+use Rattle.std.proofs.Common.{◌≡◌, ℕ, zero, suc, ◌+◌, ◌-◌, ◌≤◌, Bool, true, false, cond, eqb, ◌&&◌, List, [], ◌∷◌, ◌++◌, map, length, get_or, drop, Option, Some, None, IsNone, IfSome, IsSomeAnd, Result, Ok, Err, IfErr, is_ok, IsOk, refl, sym, ap, ◌∙◌, arith, length-append, length-drop}
 use Rattle.std.proofs.lemmas.Str.{encodes-chars, length-encode}
 use Rattle.std.proofs.Math.Utf8.{encode}
 use Rattle.std.specs.Char.{len_utf8}
@@ -10,12 +10,13 @@ use Rattle.lol_css.specs.Points.{◌or◌, clean_points_after}
 use Rattle.lol_css.specs.Tokens.{Token, tokens}
 use Rattle.lol_css.specs.Trees as trees
 use Rattle.lol_css.specs.Drafts.{DraftItem, DraftItems, NoItems, And}
-use Rattle.lol_css.specs.Rules.{Read, Refusal, ◌>>=◌, giving, skip_space, Outside, at_end}
+use Rattle.lol_css.specs.Rules.{Read, Refusal, ◌>>=◌, giving, Outside, at_end}
 use Rattle.lol_css.specs.Reading.{items_at_most, inner_list, list, selector}
-use Rattle.lol_css.specs.Accepting.{judged_item, judged, accept}
+use Rattle.lol_css.specs.Accepting.{judged_item, judged, with_cause, accept}
 use Rattle.lol_css.specs.Judging.{Judged, with_item, judged_items_at_most}
 use Rattle.lol_css.specs.Locating.{outer_item, items_after, outer_items_at_most, outer_items, early, late, first_refused, refused_token, offsets_after, point_offsets, token_offset, error_location}
 use Rattle.lol_css.specs.declared.error.ErrorLocation.{ErrorLocation}
+use Rattle.lol_css.specs.declared.error.SelectorError.{SelectorError}
 use Rattle.lol_css.proofs.Fusing.{list-starts}
 use Rattle.lol_css.proofs.LocatingLemmas.{early_is, late_is, outer_items-unfold, items_enough}
 
@@ -50,7 +51,7 @@ none_refused n items = nothing (first_refused early n items) && nothing (first_r
 -- what reading and judging give in the end
 abbrev verdict : Read (Judged trees.Items) → Judged trees.Items
 verdict (Ok x) = x.0
-verdict (Err refusal) = Err refusal.cause
+verdict (Err refusal) = Err refusal
 
 -- after an item
 abbrev later : ℕ → Judged trees.Items → List Token → Read (Judged trees.Items)
@@ -62,12 +63,12 @@ from_item n items tokens = outer_item tokens >>= λ x. later n (with_item items 
 
 with_item_ok : (items : Judged trees.Items) (item : Judged trees.Item) → is_ok (with_item items item) ≡ (is_ok items && is_ok item)
 with_item_ok (Ok x) (Ok y) = refl
-with_item_ok (Ok x) (Err cause) = refl
-with_item_ok (Err cause) item = refl
+with_item_ok (Ok x) (Err refusal) = refl
+with_item_ok (Err refusal) item = refl
 
-late_nothing : (item : Judged trees.Item) (n : ℕ) (tokens : List Token) (others : Option (ℕ × List Token)) → (let o : Option (List Token) = elim item [ Ok kept ↦ None | Err cause ↦ Some (skip_space tokens) ] in nothing (option_map {U = ℕ × List Token} (λ left. (n, left)) o or others) ≡ (is_ok item && nothing others))
-late_nothing (Ok kept) n tokens others = refl
-late_nothing (Err cause) n tokens others = refl
+late_nothing : (item : Judged trees.Item) (n : ℕ) (others : Option (ℕ × List Token)) → (let o : Option (List Token) = elim item [ Ok kept ↦ None | Err refusal ↦ Some refusal.left ] in nothing (option_map {U = ℕ × List Token} (λ left. (n, left)) o or others) ≡ (is_ok item && nothing others))
+late_nothing (Ok kept) n others = refl
+late_nothing (Err refusal) n others = refl
 
 and_moved : (a b c d : Bool) → ((a && b) && (c && d)) ≡ (a && (c && (b && d)))
 and_moved false b c d = refl
@@ -84,7 +85,7 @@ from_item_of (Ok p) n k items tokens e h =
     (h (with_item items (judged_item false p.0)) p.1
     ∙ ap (λ (b : Bool). b && none_refused (k + 1) others) (with_item_ok items (judged_item false p.0))
     ∙ and_moved (is_ok items) (is_ok (judged_item false p.0)) (nothing (first_refused early (k + 1) others)) (nothing (first_refused late (k + 1) others))
-    ∙ ap (λ (b : Bool). is_ok items && (nothing (first_refused early (k + 1) others) && b)) (sym (late_nothing (judged_item false p.0) k tokens (first_refused late (k + 1) others))))
+    ∙ ap (λ (b : Bool). is_ok items && (nothing (first_refused early (k + 1) others) && b)) (sym (late_nothing (judged_item false p.0) k (first_refused late (k + 1) others))))
 
 later_end_of : (b : Bool) (k : ℕ) (items : Judged trees.Items) → is_ok items ≡ (is_ok items && none_refused k (cond b [] []))
 later_end_of true k items = sym (and_true (is_ok items))
@@ -125,10 +126,10 @@ list_tells_of (Ok p) tokens e =
     ∙ ap (λ (b : Bool). b && none_refused 1 (cond (at_end Outside p.1) [] (outer_items_at_most n (drop 1 p.1)))) first
     ∙ ap (λ (b : Bool). is_ok item && b) (others_of (at_end Outside p.1) 1 (outer_items_at_most n (drop 1 p.1)) (outer_items (drop 1 p.1)) (λ end. items_enough n (length (drop 1 p.1) + 1) (drop 1 p.1) (omega (arith, length-drop 1 p.1)) (omega arith)))
     ∙ and_moved true (is_ok item) (nothing (first_refused early 1 others)) (nothing (first_refused late 1 others))
-    ∙ ap (λ (b : Bool). nothing (first_refused early 1 others) && b) (sym (late_nothing item 0 tokens (first_refused late 1 others)))
+    ∙ ap (λ (b : Bool). nothing (first_refused early 1 others) && b) (sym (late_nothing item 0 (first_refused late 1 others)))
     ∙ rw (outer_items-unfold tokens, e, early_is tokens (Ok p) e, late_is tokens (Ok p) e) refl
 
-accept_verdict_of : (text : List ℕ) (read : Read DraftItems) → list (inner_list 128) Outside (tokens (chars text)) ≡ read → accept text ≡ verdict (giving (judged false) read)
+accept_verdict_of : (text : List ℕ) (read : Read DraftItems) → list (inner_list 128) Outside (tokens (chars text)) ≡ read → accept text ≡ with_cause (verdict (giving (judged false) read))
 unfolding accept selector
 accept_verdict_of text (Ok p) e = rw e refl
 accept_verdict_of text (Err refusal) e = rw e refl
@@ -141,12 +142,17 @@ is_nothing : {A : Type 0} (o : Option A) → IsNone o → nothing o ≡ true
 is_nothing None e = refl
 is_nothing (Some x) e = absurd cc
 
+cause_ok : (found : Judged trees.Items) → is_ok (with_cause found) ≡ is_ok found
+cause_ok (Ok items) = refl
+cause_ok (Err refusal) = refl
+
 accept_tells : (text : List ℕ) → is_ok (accept text) ≡ nothing (error_location text)
 accept_tells text =
     let whole = tokens (chars text) in
     let a = first_refused early 0 (outer_items whole) in
     let b = first_refused late 0 (outer_items whole) in
-    ap (λ (r : Judged trees.Items). is_ok r) (accept_verdict_of text (list (inner_list 128) Outside whole) refl)
+    ap (λ (r : Result trees.Items SelectorError). is_ok r) (accept_verdict_of text (list (inner_list 128) Outside whole) refl)
+    ∙ cause_ok (verdict (read_list whole))
     ∙ list_tells_of (outer_item whole) whole refl
     ∙ sym (nothing_or a b)
     ∙ sym (nothing_map (λ place. (place.0, length whole - length place.1)) (a or b))

@@ -5,7 +5,7 @@ use Rattle.lol_css.specs.Points.{◌or◌}
 use Rattle.lol_css.specs.Tokens.{Token}
 use Rattle.lol_css.specs.Trees as trees
 use Rattle.lol_css.specs.Drafts.{DraftItem}
-use Rattle.lol_css.specs.Rules.{Read, giving, skip_space, Outside, at_end}
+use Rattle.lol_css.specs.Rules.{Read, giving, Outside, at_end}
 use Rattle.lol_css.specs.Reading.{inner_list}
 use Rattle.lol_css.specs.Accepting.{judged_item}
 use Rattle.lol_css.specs.Judging.{Judged}
@@ -80,17 +80,17 @@ told-starts tokens = sym (or_map (place tokens) (first_refused early 0 (outer_it
 abbrev pub early_of : Read DraftItem → Option (List Token)
 early_of read = elim read [ Ok x ↦ None | Err refusal ↦ Some refusal.left ]
 
-abbrev pub late_of : List Token → Read DraftItem → Option (List Token)
-late_of tokens read = elim read [
-  | Ok x ↦ elim (judged_item false x.0) [ Ok kept ↦ None | Err cause ↦ Some (skip_space tokens) ]
+abbrev pub late_of : Read DraftItem → Option (List Token)
+late_of read = elim read [
+  | Ok x ↦ elim (judged_item false x.0) [ Ok kept ↦ None | Err refusal ↦ Some refusal.left ]
   | Err refusal ↦ None
 ]
 
 pub early_is : (tokens : List Token) (read : Read DraftItem) → outer_item tokens ≡ read → early tokens ≡ early_of read
 early_is tokens read e = ap early_of e
 
-pub late_is : (tokens : List Token) (read : Read DraftItem) → outer_item tokens ≡ read → late tokens ≡ late_of tokens read
-late_is tokens read e = ap (late_of tokens) e
+pub late_is : (tokens : List Token) (read : Read DraftItem) → outer_item tokens ≡ read → late tokens ≡ late_of read
+late_is tokens read e = ap late_of e
 
 told_early_of : (read : Read DraftItem) (whole : List Token) (n : ℕ) (found : Option (ℕ × ℕ)) (tokens : List Token) → outer_item tokens ≡ read → read_of (giving (judged_item false) read) ≡ None → told whole n found tokens ≡ Some (n, length whole - length (left_of (giving (judged_item false) read)))
 told_early_of (Ok p) whole n found tokens e h = absurd cc
@@ -101,38 +101,38 @@ pub told-early : (whole : List Token) (n : ℕ) (found : Option (ℕ × ℕ)) (t
 told-early whole n found tokens h = told_early_of (outer_item tokens) whole n found tokens refl h
 
 -- this item and those after it
-abbrev then_others : List Token → ℕ → Option (ℕ × ℕ) → Judged trees.Item → List Token → List (List Token) → Option (ℕ × ℕ)
-then_others whole n found item tokens others =
-    option_map (place whole) (first_refused early (n + 1) others) or found or late_place item (n, length whole - length (skip_space tokens)) or option_map (place whole) (first_refused late (n + 1) others)
+abbrev then_others : List Token → ℕ → Option (ℕ × ℕ) → Judged trees.Item → List (List Token) → Option (ℕ × ℕ)
+then_others whole n found item others =
+    option_map (place whole) (first_refused early (n + 1) others) or found or late_place n (length whole) item or option_map (place whole) (first_refused late (n + 1) others)
 
-late_same : (item : Judged trees.Item) (whole : List Token) (n : ℕ) (tokens : List Token) (others : Option (ℕ × List Token)) → (let l : Option (ℕ × ℕ) = option_map (place whole) (option_map (λ left. (n, left)) (elim item [ Ok kept ↦ None | Err cause ↦ Some (skip_space tokens) ]) or others) in let r : Option (ℕ × ℕ) = late_place item (n, length whole - length (skip_space tokens)) or option_map (place whole) others in l ≡ r)
-late_same (Ok kept) whole n tokens others = refl
-late_same (Err cause) whole n tokens others = refl
+late_same : (item : Judged trees.Item) (whole : List Token) (n : ℕ) (others : Option (ℕ × List Token)) → (let l : Option (ℕ × ℕ) = option_map (place whole) (option_map (λ left. (n, left)) (elim item [ Ok kept ↦ None | Err refusal ↦ Some refusal.left ]) or others) in let r : Option (ℕ × ℕ) = late_place n (length whole) item or option_map (place whole) others in l ≡ r)
+late_same (Ok kept) whole n others = refl
+late_same (Err refusal) whole n others = refl
 
-told_read_of : (read : Read DraftItem) (whole : List Token) (n : ℕ) (found : Option (ℕ × ℕ)) (tokens : List Token) (item : Judged trees.Item) → outer_item tokens ≡ read → read_of (giving (judged_item false) read) ≡ Some item → told whole n found tokens ≡ then_others whole n found item tokens (items_after outer_items read)
+told_read_of : (read : Read DraftItem) (whole : List Token) (n : ℕ) (found : Option (ℕ × ℕ)) (tokens : List Token) (item : Judged trees.Item) → outer_item tokens ≡ read → read_of (giving (judged_item false) read) ≡ Some item → told whole n found tokens ≡ then_others whole n found item (items_after outer_items read)
 told_read_of (Err refusal) whole n found tokens item e h = absurd cc
 told_read_of (Ok p) whole n found tokens item e h =
     let same : judged_item false p.0 ≡ item = cc in
-    rw (outer_items-unfold tokens, e, early_is tokens (Ok p) e, late_is tokens (Ok p) e, ← same) (ap (λ (o : Option (ℕ × ℕ)). option_map (place whole) (first_refused early (n + 1) (items_after outer_items (Ok p))) or found or o) (late_same (judged_item false p.0) whole n tokens (first_refused late (n + 1) (items_after outer_items (Ok p)))))
+    rw (outer_items-unfold tokens, e, early_is tokens (Ok p) e, late_is tokens (Ok p) e, ← same) (ap (λ (o : Option (ℕ × ℕ)). option_map (place whole) (first_refused early (n + 1) (items_after outer_items (Ok p))) or found or o) (late_same (judged_item false p.0) whole n (first_refused late (n + 1) (items_after outer_items (Ok p)))))
 
 -- what was found so far, with an item that was read
-abbrev pub found_with : List Token → ℕ → Option (ℕ × ℕ) → Judged trees.Item → List Token → Option (ℕ × ℕ)
-found_with whole n found item tokens = found or late_place item (n, length whole - length (skip_space tokens))
+abbrev pub found_with : List Token → ℕ → Option (ℕ × ℕ) → Judged trees.Item → Option (ℕ × ℕ)
+found_with whole n found item = found or late_place n (length whole) item
 
 after_left_of : (read : Read DraftItem) (item : Judged trees.Item) (b : Bool) → read_of (giving (judged_item false) read) ≡ Some item → at_end Outside (left_of (giving (judged_item false) read)) ≡ b → items_after outer_items read ≡ cond b [] (outer_items (drop 1 (left_of (giving (judged_item false) read))))
 after_left_of (Err refusal) item b h end = absurd cc
 after_left_of (Ok p) item b h end = rw end refl
 
 -- the list ends after an item
-pub told-ends : (whole : List Token) (n : ℕ) (found : Option (ℕ × ℕ)) (tokens : List Token) (item : Judged trees.Item) → read_of (giving (judged_item false) (outer_item tokens)) ≡ Some item → at_end Outside (left_of (giving (judged_item false) (outer_item tokens))) ≡ true → told whole n found tokens ≡ found_with whole n found item tokens
+pub told-ends : (whole : List Token) (n : ℕ) (found : Option (ℕ × ℕ)) (tokens : List Token) (item : Judged trees.Item) → read_of (giving (judged_item false) (outer_item tokens)) ≡ Some item → at_end Outside (left_of (giving (judged_item false) (outer_item tokens))) ≡ true → told whole n found tokens ≡ found_with whole n found item
 told-ends whole n found tokens item h end =
-    told_read_of (outer_item tokens) whole n found tokens item refl h ∙ rw (after_left_of (outer_item tokens) item true h end) (ap (λ (o : Option (ℕ × ℕ)). found or o) (or_none (late_place item (n, length whole - length (skip_space tokens)))))
+    told_read_of (outer_item tokens) whole n found tokens item refl h ∙ rw (after_left_of (outer_item tokens) item true h end) (ap (λ (o : Option (ℕ × ℕ)). found or o) (or_none (late_place n (length whole) item)))
 
 -- another item follows
-pub told-goes_on : (whole : List Token) (n : ℕ) (found : Option (ℕ × ℕ)) (tokens : List Token) (item : Judged trees.Item) → read_of (giving (judged_item false) (outer_item tokens)) ≡ Some item → at_end Outside (left_of (giving (judged_item false) (outer_item tokens))) ≡ false → told whole n found tokens ≡ told whole (n + 1) (found_with whole n found item tokens) (drop 1 (left_of (giving (judged_item false) (outer_item tokens))))
+pub told-goes_on : (whole : List Token) (n : ℕ) (found : Option (ℕ × ℕ)) (tokens : List Token) (item : Judged trees.Item) → read_of (giving (judged_item false) (outer_item tokens)) ≡ Some item → at_end Outside (left_of (giving (judged_item false) (outer_item tokens))) ≡ false → told whole n found tokens ≡ told whole (n + 1) (found_with whole n found item) (drop 1 (left_of (giving (judged_item false) (outer_item tokens))))
 told-goes_on whole n found tokens item h end =
     let others = outer_items (drop 1 (left_of (giving (judged_item false) (outer_item tokens)))) in
-    told_read_of (outer_item tokens) whole n found tokens item refl h ∙ rw (after_left_of (outer_item tokens) item false h end) (ap (λ (o : Option (ℕ × ℕ)). option_map (place whole) (first_refused early (n + 1) others) or o) (or_assoc found (late_place item (n, length whole - length (skip_space tokens))) (option_map (place whole) (first_refused late (n + 1) others))))
+    told_read_of (outer_item tokens) whole n found tokens item refl h ∙ rw (after_left_of (outer_item tokens) item false h end) (ap (λ (o : Option (ℕ × ℕ)). option_map (place whole) (first_refused early (n + 1) others) or o) (or_assoc found (late_place n (length whole) item) (option_map (place whole) (first_refused late (n + 1) others))))
 
 shorter_of : (read : Read DraftItem) (tokens : List Token) (item : Judged trees.Item) → outer_item tokens ≡ read → read_of (giving (judged_item false) read) ≡ Some item → at_end Outside (left_of (giving (judged_item false) read)) ≡ false → length (drop 1 (left_of (giving (judged_item false) read))) < length tokens
 shorter_of (Err refusal) tokens item e h end = absurd cc

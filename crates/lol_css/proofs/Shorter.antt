@@ -244,11 +244,11 @@ attribute-leaves : (tokens : List Token) → Leaves (attribute tokens) (length t
 unfolding attribute
 attribute-leaves tokens =
     let n = length tokens in
-    then_leaves (attribute_name (skip_space tokens)) (λ name. comparison (utf8 (lowercase name.0.0)) (skip_space name.1) >>= λ part. Ok ((cond name.0.1 LateNamespace (Plain part.0)), part.1)) n n
+    then_leaves (attribute_name (skip_space tokens)) (λ name. comparison (utf8 (lowercase name.0.0)) (skip_space name.1) >>= λ part. Ok ((cond name.0.1 (LateNamespace (skip_space tokens)) (Plain part.0)), part.1)) n n
     (weaker (attribute_name (skip_space tokens)) (length (skip_space tokens)) n (attribute_name-leaves (skip_space tokens)) (skip_space-shorter tokens))
-    (λ name rest l. then_leaves (comparison (utf8 (lowercase name.0)) (skip_space rest)) (λ part. Ok ((cond name.1 LateNamespace (Plain part.0)), part.1)) n n
+    (λ name rest l. then_leaves (comparison (utf8 (lowercase name.0)) (skip_space rest)) (λ part. Ok ((cond name.1 (LateNamespace (skip_space tokens)) (Plain part.0)), part.1)) n n
     (weaker (comparison (utf8 (lowercase name.0)) (skip_space rest)) (length (skip_space rest)) n (comparison-leaves (utf8 (lowercase name.0)) (skip_space rest)) (omega (arith, skip_space-shorter rest)))
-    (λ part rest2 l2. ok_leaves (cond name.1 LateNamespace (Plain part)) rest2 n l2))
+    (λ part rest2 l2. ok_leaves (cond name.1 (LateNamespace (skip_space tokens)) (Plain part)) rest2 n l2))
 
 -- ---- parts
 
@@ -264,25 +264,25 @@ function_part-leaves name tokens =
     let n = length tokens in
     let nth = an_plus_b (drop 1 tokens) in
     let less : Leaves (an_plus_b (drop 1 tokens)) n = weaker (an_plus_b (drop 1 tokens)) (length (drop 1 tokens)) n (an_plus_b-leaves (drop 1 tokens)) (omega (arith, length-drop 1 tokens)) in
-    let late = cond (is_one_of (codes "nth-last-child" ∷ codes "nth-last-of-type" ∷ []) name) (giving (λ x. LatePseudoClass) nth) (refused errors.UnsupportedPseudoClassOrElement tokens) in
+    let late = cond (is_one_of (codes "nth-last-child" ∷ codes "nth-last-of-type" ∷ []) name) (giving (λ x. LatePseudoClass tokens) nth) (refused errors.UnsupportedPseudoClassOrElement tokens) in
     if_leaves (says (codes "nth-child") name) (giving (λ x. Plain (Nth false x.0 x.1)) nth) (cond (says (codes "nth-of-type") name) (giving (λ x. Plain (Nth true x.0 x.1)) nth) late) n
     (giving_leaves (λ x. Plain (Nth false x.0 x.1)) nth n less)
     (if_leaves (says (codes "nth-of-type") name) (giving (λ x. Plain (Nth true x.0 x.1)) nth) late n
     (giving_leaves (λ x. Plain (Nth true x.0 x.1)) nth n less)
-    (if_leaves (is_one_of (codes "nth-last-child" ∷ codes "nth-last-of-type" ∷ []) name) (giving (λ x. LatePseudoClass) nth) (refused errors.UnsupportedPseudoClassOrElement tokens) n
-    (giving_leaves (λ x. LatePseudoClass) nth n less) (err_leaves n)))
+    (if_leaves (is_one_of (codes "nth-last-child" ∷ codes "nth-last-of-type" ∷ []) name) (giving (λ x. LatePseudoClass tokens) nth) (refused errors.UnsupportedPseudoClassOrElement tokens) n
+    (giving_leaves (λ x. LatePseudoClass tokens) nth n less) (err_leaves n)))
 
 ident_part-leaves : (name : List ℕ) (tokens : List Token) → Leaves (ident_part name tokens) (length tokens)
 unfolding ident_part
 ident_part-leaves name tokens =
     let n = length tokens in
     let less : length (drop 1 tokens) ≤ n = omega (arith, length-drop 1 tokens) in
-    let late = cond (is_one_of late_words name) (Ok (LatePseudoClass, drop 1 tokens)) (refused errors.UnsupportedPseudoClassOrElement tokens) in
+    let late = cond (is_one_of late_words name) (Ok (LatePseudoClass tokens, drop 1 tokens)) (refused errors.UnsupportedPseudoClassOrElement tokens) in
     if_leaves (says (codes "first-child") name) (Ok (Plain (Nth false (pos 0) (pos 1)), drop 1 tokens)) (cond (says (codes "first-of-type") name) (Ok (Plain (Nth true (pos 0) (pos 1)), drop 1 tokens)) late) n
     (ok_leaves (Plain (Nth false (pos 0) (pos 1))) (drop 1 tokens) n less)
     (if_leaves (says (codes "first-of-type") name) (Ok (Plain (Nth true (pos 0) (pos 1)), drop 1 tokens)) late n
     (ok_leaves (Plain (Nth true (pos 0) (pos 1))) (drop 1 tokens) n less)
-    (if_leaves (is_one_of late_words name) (Ok (LatePseudoClass, drop 1 tokens)) (refused errors.UnsupportedPseudoClassOrElement tokens) n (ok_leaves LatePseudoClass (drop 1 tokens) n less) (err_leaves n)))
+    (if_leaves (is_one_of late_words name) (Ok (LatePseudoClass tokens, drop 1 tokens)) (refused errors.UnsupportedPseudoClassOrElement tokens) n (ok_leaves (LatePseudoClass tokens) (drop 1 tokens) n less) (err_leaves n)))
 
 -- the list of a logical combination leaves no more than it is given
 pub record InnerLeaves (inner : List Token → Read DraftItems) : Type 0 where
@@ -472,9 +472,9 @@ next_step-leaves : (nesting : Nesting) (tokens : List Token) → Leaves (next_st
 unfolding next_step
 next_step-leaves nesting tokens =
     let n = length tokens in
-    if_leaves (at_stop nesting (skip_space tokens)) (Ok (None, skip_space tokens)) (giving (λ found. Some found) (step (first_passes is_space tokens) (skip_space tokens))) n
+    if_leaves (at_stop nesting (skip_space tokens)) (Ok (None, skip_space tokens)) (giving (λ found. Some (record { step = found; left = skip_space tokens })) (step (first_passes is_space tokens) (skip_space tokens))) n
     (ok_leaves None (skip_space tokens) n (skip_space-shorter tokens))
-    (giving_leaves (λ found. Some found) (step (first_passes is_space tokens) (skip_space tokens)) n (weaker (step (first_passes is_space tokens) (skip_space tokens)) (length (skip_space tokens)) n (step-token-leaves (first_passes is_space tokens) (skip_space tokens)) (skip_space-shorter tokens)))
+    (giving_leaves (λ found. Some (record { step = found; left = skip_space tokens })) (step (first_passes is_space tokens) (skip_space tokens)) n (weaker (step (first_passes is_space tokens) (skip_space tokens)) (length (skip_space tokens)) n (step-token-leaves (first_passes is_space tokens) (skip_space tokens)) (skip_space-shorter tokens)))
 
 further-leaves : (room : ℕ) (inner : List Token → Read DraftItems) → InnerLeaves inner → (nesting : Nesting) (front : DraftItem) (tokens : List Token) → Leaves (further room inner nesting front tokens) (length tokens)
 unfolding further

@@ -3,16 +3,15 @@ use Rattle.std.specs.Prelude.{ℕ, zero, suc, Bool, true, false, if◌then◌els
 use Rattle.lol_css.specs.Tokens.{Token}
 use Rattle.lol_css.specs.Trees.{Part, WrittenCompound, Nothing, With, Item, First, Then, Items, And}
 use Rattle.lol_css.specs.Drafts as drafts
-use Rattle.lol_css.specs.Rules.{Read, refused, ◌>>=◌, Nesting, at_end}
+use Rattle.lol_css.specs.Rules.{Refusal, Read, refused, ◌>>=◌, Nesting, at_end}
 use Rattle.lol_css.specs.Reading.{part, compound, next_step, item}
 use Rattle.lol_css.specs.Accepting.{judged_step, judged_part, judged_compound, judged_item}
 use Rattle.lol_css.specs.declared.selector.Combinator.{Combinator}
-use Rattle.lol_css.specs.declared.error.SelectorError.{SelectorError}
 use Rattle.lol_css.specs.declared.error.SelectorError.TheVariants.{DanglingCombinator, UnsupportedSyntax}
 
--- what is kept, or the cause for which it is refused late
+-- what is kept, or why it is refused late
 abbrev pub Judged : Type 0 → Type 0
-Judged A = Result A SelectorError
+Judged A = Result A Refusal
 
 abbrev pub with_part : Judged WrittenCompound → Judged Part → Judged WrittenCompound
 with_part front part = front >>= λ parts. part >>= λ last. Ok (With parts last)
@@ -54,6 +53,6 @@ judged_items_at_most (suc n) inner nesting inside items tokens =
 
 -- whether nothing was read, so far as it is judged
 abbrev pub is_empty : Judged WrittenCompound → Bool
-is_empty (Err cause) = false
+is_empty (Err refusal) = false
 is_empty (Ok Nothing) = true
 is_empty (Ok (With front last)) = false

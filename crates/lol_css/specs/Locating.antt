@@ -6,7 +6,7 @@ use Rattle.std.specs.Str.{chars}
 use Rattle.lol_css.specs.Points.{clean_points_after, preprocessed, many, ◌or◌}
 use Rattle.lol_css.specs.Tokens.{Token, next, somes, tokens}
 use Rattle.lol_css.specs.Drafts.{DraftItem}
-use Rattle.lol_css.specs.Rules.{Read, skip_space, Outside, at_end}
+use Rattle.lol_css.specs.Rules.{Read, Outside, at_end}
 use Rattle.lol_css.specs.Reading.{item, inner_list}
 use Rattle.lol_css.specs.Accepting.{judged_item}
 use Rattle.lol_css.specs.declared.error.ErrorLocation.{ErrorLocation}
@@ -35,10 +35,10 @@ outer_items tokens = outer_items_at_most (length tokens + 1) tokens
 abbrev pub early : List Token → Option (List Token)
 early tokens = elim (outer_item tokens) [ Ok x ↦ None | Err refusal ↦ Some refusal.left ]
 
--- where an item is refused once the whole list was read: from its first token that is no white space
+-- where an item is refused once the whole list was read: from the part or the step on that is refused
 abbrev pub late : List Token → Option (List Token)
 late tokens = elim (outer_item tokens) [
-  | Ok x ↦ elim (judged_item false x.0) [ Ok kept ↦ None | Err cause ↦ Some (skip_space tokens) ]
+  | Ok x ↦ elim (judged_item false x.0) [ Ok kept ↦ None | Err refusal ↦ Some refusal.left ]
   | Err refusal ↦ None
 ]
 

@@ -7,7 +7,7 @@ use Rattle.lol_css.specs.Points.{first_passes}
 use Rattle.lol_css.specs.Tokens.{Token, Quoted, Hash, Function, Ident, Match, Delim}
 use Rattle.lol_css.specs.CaselessAttributes.{caseless_attributes}
 use Rattle.lol_css.specs.Trees.{Simple, LocalName, AnyName, NoNamespace, Id, Class, Exists, Compares, Nth}
-use Rattle.lol_css.specs.Drafts.{Step, By, NextSibling, SubsequentSibling, DraftPart, Plain, LatePseudoClass, LateNamespace, Logical, DraftCompound, Nothing, With, DraftItem, First, Then, DraftItems, NoItems, And}
+use Rattle.lol_css.specs.Drafts.{Step, PlacedStep, By, NextSibling, SubsequentSibling, DraftPart, Plain, LatePseudoClass, LateNamespace, Logical, DraftCompound, Nothing, With, DraftItem, First, Then, DraftItems, NoItems, And}
 use Rattle.lol_css.specs.Rules.{Read, refused, ◌>>=◌, giving, is_delim, is_space, skip_space, Nesting, Outside, InFunction, InBrackets, at_end, at_stop, required_token, block_end, lowercase, says, ident_of}
 use Rattle.lol_css.specs.AnPlusB.{an_plus_b}
 use Rattle.lol_css.specs.declared.syntax.tokens.MatchOperator.TheVariants as operators
@@ -96,7 +96,7 @@ unfoldable pub attribute : List Token → Read DraftPart
 attribute tokens = do
   name ← attribute_name (skip_space tokens)
   part ← comparison (utf8 (lowercase name.0.0)) (skip_space name.1)
-  Ok ((if name.0.1 then LateNamespace else Plain part.0), part.1)
+  Ok ((if name.0.1 then LateNamespace (skip_space tokens) else Plain part.0), part.1)
 
 -- ---- the other parts
 
@@ -120,7 +120,7 @@ unfoldable pub function_part : List ℕ → List Token → Read DraftPart
 function_part name tokens =
     if says (codes "nth-child") name then giving (λ nth. Plain (Nth false nth.0 nth.1)) (an_plus_b (drop 1 tokens))
     else (if says (codes "nth-of-type") name then giving (λ nth. Plain (Nth true nth.0 nth.1)) (an_plus_b (drop 1 tokens))
-    else (if is_one_of (codes "nth-last-child" ∷ codes "nth-last-of-type" ∷ []) name then giving (λ nth. LatePseudoClass) (an_plus_b (drop 1 tokens))
+    else (if is_one_of (codes "nth-last-child" ∷ codes "nth-last-of-type" ∷ []) name then giving (λ nth. LatePseudoClass tokens) (an_plus_b (drop 1 tokens))
     else refused UnsupportedPseudoClassOrElement tokens))
 
 -- the pseudo-classes without an argument that are refused late
@@ -132,7 +132,7 @@ unfoldable pub ident_part : List ℕ → List Token → Read DraftPart
 ident_part name tokens =
     if says (codes "first-child") name then Ok (Plain (Nth false (pos 0) (pos 1)), drop 1 tokens)
     else (if says (codes "first-of-type") name then Ok (Plain (Nth true (pos 0) (pos 1)), drop 1 tokens)
-    else (if is_one_of late_words name then Ok (LatePseudoClass, drop 1 tokens)
+    else (if is_one_of late_words name then Ok (LatePseudoClass tokens, drop 1 tokens)
     else refused UnsupportedPseudoClassOrElement tokens))
 
 -- after a colon; inner reads the list of a logical combination. After a second colon no name is known
@@ -238,10 +238,10 @@ step after_space (token ∷ tokens) = elim (step_of token) [
 ]
 
 -- the step after a compound and white space; at Stop there is none
-unfoldable pub next_step : Nesting → List Token → Read (Option Step)
+unfoldable pub next_step : Nesting → List Token → Read (Option PlacedStep)
 next_step nesting tokens =
     if at_stop nesting (skip_space tokens) then Ok (None, skip_space tokens)
-    else giving (λ found. Some found) (step (first_passes is_space tokens) (skip_space tokens))
+    else giving (λ found. Some (record { step = found; left = skip_space tokens })) (step (first_passes is_space tokens) (skip_space tokens))
 
 -- the rest of an item, to which so many compounds may be added; a step past the last is refused where it is recognised
 unfoldable pub further : ℕ → (List Token → Read DraftItems) → Nesting → DraftItem → List Token → Read DraftItem

@@ -1,5 +1,5 @@
 -- What the code's values stand for.
-use Rattle.std.specs.Prelude.{◌≡◌, ℕ, Bool, true, false, List, [], ◌∷◌, drop, Option, Some, None, Result, Ok, Err}
+use Rattle.std.specs.Prelude.{◌≡◌, ℕ, Bool, true, false, List, [], ◌∷◌, ◌-◌, length, drop, Option, Some, None, Result, Ok, Err}
 use Rattle.std.specs.Option.{option_map}
 use Rattle.lol_css.specs.Points.{decimal, name}
 use Rattle.lol_css.specs.Tokens as tokens
@@ -15,6 +15,7 @@ use Rattle.lol_css.specs.declared.error.SelectorError.{SelectorError}
 use Rattle.lol_css.specs.declared.error.SelectorError.TheVariants.{UnexpectedEnd, Memory}
 use Rattle.lol_css.specs.declared.selectors.refusals.RefusedItem.{RefusedItem}
 use Rattle.lol_css.specs.declared.selectors.judged.Judged.{Judged}
+use Rattle.lol_css.specs.declared.selectors.judged.Refusal.{Refusal}
 use Rattle.lol_css.specs.declared.selectors.judged.Judged.TheVariants.{Kept, Refused}
 use Rattle.lol_css.specs.declared.selectors.parser.Context.{Context}
 use Rattle.lol_css.specs.declared.syntax.reader.Nesting.{Nesting}
@@ -100,17 +101,20 @@ is_inside InFunction = true
 is_inside _ = false
 
 -- what reading an item gives under what is open, with the item judged
-abbrev pub judged_item_in : Context → List tokens.Token → Read (Result Item SelectorError)
+abbrev pub judged_item_in : Context → List tokens.Token → Read (Result Item rules.Refusal)
 judged_item_in context tokens =
     giving (judged_item (is_inside context.nesting))
     (reading.item (inner_list context.depth_left) (nesting_of context.nesting) tokens)
 
--- what is kept, seen by view, or the cause for which it is refused late
-abbrev pub judgement : {X Y : Type 0} → (X → Y) → Judged X → Result Y SelectorError
-judgement view (Kept x) = Ok (view x)
-judgement view (Refused cause) = Err cause
+abbrev pub refusal_of : Refusal → rules.Refusal
+refusal_of refusal = record { cause = refusal.cause; left = tokens.tokens_of refusal.left.now }
 
-abbrev pub step_judgement : Judged Combinator → Result Combinator SelectorError
+-- what is kept, seen by view, or why it is refused late
+abbrev pub judgement : {X Y : Type 0} → (X → Y) → Judged X → Result Y rules.Refusal
+judgement view (Kept x) = Ok (view x)
+judgement view (Refused refusal) = Err (refusal_of refusal)
+
+abbrev pub step_judgement : Judged Combinator → Result Combinator rules.Refusal
 step_judgement step = judgement (λ combinator. combinator) step
 
 -- what a rule reads, unless it refuses
@@ -127,7 +131,7 @@ left_of (Err refusal) = refusal.left
 abbrev pub numbers : RefusedItem → ℕ × ℕ
 numbers item = (item.number, item.token)
 
--- the place of what is refused late
-abbrev pub late_place : {X : Type 0} → Result X SelectorError → ℕ × ℕ → Option (ℕ × ℕ)
-late_place (Ok x) place = None
-late_place (Err cause) place = Some place
+-- the place of what is refused late: the item's number, and the token's of so many
+abbrev pub late_place : {X : Type 0} → ℕ → ℕ → Result X rules.Refusal → Option (ℕ × ℕ)
+late_place number all (Ok x) = None
+late_place number all (Err refusal) = Some (number, all - length refusal.left)

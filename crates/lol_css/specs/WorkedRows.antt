@@ -38,6 +38,8 @@ replacement = 239 ∷ 191 ∷ 189 ∷ []
 abbrev pub accepted_rows : List Accepted
 accepted_rows =
     stands_for (codes "a") (one_part (type (codes "a")))
+    ∷ stands_for (codes "a/*/ b") (one_part (type (codes "a")))
+    ∷ stands_for (97 ∷ 12 ∷ 98 ∷ []) (And NoItems (Then (item (type (codes "a"))) Descendant (only (type (codes "b")))))
     ∷ stands_for (codes "*") (one_part (Plain AnyName))
     ∷ stands_for (codes "*|a") (one_part (type (codes "a")))
     ∷ stands_for (codes "*|*") (one_part (Plain AnyName))
@@ -162,16 +164,26 @@ located_rows =
     ∷ refused_at (codes ":nth-child(n + 2147483648)") 0 15
     ∷ refused_at (codes ":nth-child(n-2147483649)") 0 11
     ∷ refused_at (codes ":nth-child(--n)") 0 11
+    ∷ refused_at (codes ":nth-child(1.)") 0 12
     ∷ refused_at (codes ":nth-child(+ n)") 0 12
     ∷ refused_at (codes ":nth-child(2n of a)") 0 14
     ∷ refused_at (codes "a:not(b, c|d)") 0 10
     ∷ refused_at (codes "x, :not(:is(a,))") 1 14
-    ∷ refused_at (codes "p, a + b") 1 3
-    ∷ refused_at (codes "a ,  b > c ~ d") 1 5
-    ∷ refused_at (codes "a + b, c ~ d") 0 0
+    ∷ refused_at (codes "p, a + b") 1 5
+    ∷ refused_at (codes "a ,  b > c ~ d") 1 11
+    ∷ refused_at (codes "a + b, c ~ d") 0 2
+    ∷ refused_at (codes "a + b ~ c") 0 6
     ∷ refused_at (codes "a + b, c[") 1 9
-    ∷ refused_at (codes " [*|a], b") 0 1
-    ∷ refused_at (codes "a, b, :is(c d), :root") 2 6
+    ∷ refused_at (codes " [*|a], b") 0 2
+    ∷ refused_at (codes "[ *|a]") 0 2
+    ∷ refused_at (codes "a, b, :is(c d), :root") 2 12
+    ∷ refused_at (codes "a:not(b > c)") 0 8
+    ∷ refused_at (codes "a:not( b  c)") 0 10
+    ∷ refused_at (codes ":is(b c) + d") 0 9
+    ∷ refused_at (codes "a:not(:root)") 0 7
+    ∷ refused_at (codes "x > a:root b") 0 6
+    ∷ refused_at (codes "a:root:empty") 0 2
+    ∷ refused_at (codes ":nth-last-child(2n)") 0 1
     ∷ refused_at (codes "a,\r\nb|c") 1 5
     ∷ refused_at (codes "a,\rb|c") 1 4
     ∷ refused_at (97 ∷ 0 ∷ codes "|b") 0 2
@@ -179,7 +191,7 @@ located_rows =
     ∷ refused_at (230 ∷ 151 ∷ 165 ∷ codes ", " ++ 240 ∷ 157 ∷ 132 ∷ 158 ∷ codes ")") 1 9
     ∷ refused_at (codes "/*" ++ 195 ∷ 169 ∷ codes "*/a|b") 0 7
     ∷ refused_at (codes "a/*x*/|b") 0 6
-    ∷ refused_at (codes "a,/**/ b + c") 1 7
+    ∷ refused_at (codes "a,/**/ b + c") 1 9
     ∷ refused_at (codes "a,/*x") 1 5
     ∷ refused_at (codes "\\31 a|b") 0 5
     ∷ refused_at (codes "\\31\r\nb|c") 0 6

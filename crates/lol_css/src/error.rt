@@ -88,7 +88,7 @@ impl<T: Drop> From<AllocFailed<T>> for SelectorError {
 pub struct ErrorLocation {
     /// The number of the item in the outermost list, from 0.
     pub item: usize,
-    /// The byte offset in the text, as it is given: of the first token that is refused, or of the item where it is refused late.
+    /// The byte offset in the text, as it is given, of the first token that is refused, or from which on a part or a step is refused late.
     pub offset: usize,
 }
 

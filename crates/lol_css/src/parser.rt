@@ -69,7 +69,8 @@ impl Selector {
     /// Where `from_str` refuses a text: the item of the outermost list, and the byte offset; nothing where the text is accepted.
     ///
     /// Where a token can't stand where it does, the offset is the token's, or the text's length at the end. Where the whole list is read
-    /// and an item of it is refused then, as `a + b`, the offset is that of the item's first token that is no white space.
+    /// and a part or a step of it is refused then, it is that of the step's sign, or of the compound after white space, of the name of a
+    /// pseudo-class, or of the `*` in `[*|a]`.
     /// Tokens are those of CSS Syntax 3, section 4.
     ///
     /// The text is read as by `from_str`, and walked over a few times more: call it only for a text that is refused.

@@ -7,6 +7,8 @@ mod css;
 #[cfg(test)]
 mod locations;
 #[cfg(test)]
+mod messages;
+#[cfg(test)]
 mod readings;
 #[cfg(test)]
 mod texts;

@@ -4,7 +4,7 @@ use lol_css::{ErrorLocation, Selector};
 use std::test::Fail;
 
 /// A text that is refused, the item's number, and the byte offset.
-const REFUSED: [(&str, usize, usize); 42] = [
+const REFUSED: [(&str, usize, usize); 47] = [
     ("", 0, 0),
     ("  ", 0, 2),
     ("/* a", 0, 4),
@@ -35,9 +35,14 @@ const REFUSED: [(&str, usize, usize); 42] = [
     (":nth-child(n + 1.5)", 0, 15),
     (":nth-child( 3n- )", 0, 16),
     (":nth-child(2147483648n+1)", 0, 11),
-    ("a, b ~ c, d + e", 1, 3),
+    ("a, b ~ c, d + e", 1, 5),
+    ("img, a + img", 1, 7),
+    ("p, a:only-child b", 1, 5),
+    ("a:is(b c)", 0, 7),
+    ("a[*|b=c]", 0, 2),
     ("a, b ~ c, d >", 2, 13),
-    ("ä, ö + ü, ß", 1, 4),
+    ("ä, ö + ü, ß", 1, 7),
+    ("ü > ö + a", 0, 8),
     ("日本, 語)", 1, 11),
     ("🦀 > 🦀|a", 0, 11),
     ("/* 🦀 */\ta|b", 0, 12),

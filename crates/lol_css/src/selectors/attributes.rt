@@ -14,7 +14,7 @@ ghost use Rattle.lol_css.specs.TreeViews.{part_of};
 
 use crate::error::SelectorError;
 use crate::selector::{CssString, SimpleSelector};
-use crate::selectors::judged::Judged;
+use crate::selectors::judged::{Judged, Refusal};
 use crate::selectors::parser::Parser;
 use crate::syntax::reader::{Nesting, Reader};
 use crate::syntax::texts::Name;
@@ -209,7 +209,7 @@ fn case_sensitivity(
     Ok(found)
 }
 
-impl Parser<'_> {
+impl<'a> Parser<'a> {
     /// The value that is compared with, a name or a quoted text.
     #[tactic(auto, unfolding(crate::specs::Rules::required_token))]
     fn value(&mut self) -> Result<CssString, SelectorError>
@@ -252,18 +252,22 @@ impl Parser<'_> {
 
     /// An attribute, after the `[`.
     #[tactic(auto, unfolding(crate::specs::Reading::attribute, crate::specs::Accepting::judged_part))]
-    pub(crate) fn attribute(&mut self) -> Result<Judged<SimpleSelector>, SelectorError>
+    pub(crate) fn attribute(&mut self) -> Result<Judged<'a, SimpleSelector>, SelectorError>
         ensures reads { ReadsUnlessMemory (judgement part_of) result self.new.reader
             (giving judged_part (attribute self.old.reader)) }
         ensures context { self.new.context ≡ self.old.context }
     {
         self.reader.skip_space();
+        let left = self.reader.rest();
         let (name, any_namespace) = attribute_name(&mut self.reader)?;
         let name = name.to_lowercase_text(self.alloc)?;
         self.reader.skip_space();
         let part = self.comparison(name)?;
         Ok(if any_namespace {
-            Judged::Refused(SelectorError::NamespacedSelector)
+            Judged::Refused(Refusal {
+                cause: SelectorError::NamespacedSelector,
+                left,
+            })
         } else {
             Judged::Kept(part)
         })

@@ -132,23 +132,23 @@ fn single(alloc: Global, part: SimpleSelector) -> Result<Compound, AllocError>
 
 /// Adds a part to a compound.
 #[tactic(auto, using(crate::proofs::TreeRows::push_steps))]
-pub(crate) fn add_part(
-    compound: &mut Judged<Compound>,
-    part: Judged<SimpleSelector>,
+pub(crate) fn add_part<'a>(
+    compound: &mut Judged<'a, Compound>,
+    part: Judged<'a, SimpleSelector>,
 ) -> Result<(), AllocError>
     ensures { OnOk result (judgement compound_of compound.new
-        ≡ judging.with_part (judgement compound_of compound.old) (judgement part_of part)) }
+        ≡ judging.with_part (judgement compound_of compound.old) (judgement part_of part.entry)) }
 {
     if let Judged::Kept(kept) = compound {
         match part {
             Judged::Kept(part) => kept.parts.push(part)?,
-            Judged::Refused(cause) => *compound = Judged::Refused(cause),
+            Judged::Refused(refusal) => *compound = Judged::Refused(refusal),
         }
     }
     Ok(())
 }
 
-pub(crate) fn reads_nothing(parts: &Judged<Compound>) -> bool
+pub(crate) fn reads_nothing(parts: &Judged<'_, Compound>) -> bool
     ensures { result ≡ is_empty (judgement compound_of parts.now) }
 {
     match parts {

@@ -11,16 +11,16 @@ ghost use Rattle.lol_css.specs.TreeViews.{compound_of, item_of, list_of};
 
 use crate::error::SelectorError;
 use crate::selector::{Combinator, ComplexSelector, Compound, SelectorList};
-use crate::selectors::judged::Judged;
+use crate::selectors::judged::{Judged, Refusal};
 use crate::selectors::parser::Parser;
 use crate::syntax::reader::Nesting;
 use crate::syntax::tokens::Token;
 use std::alloc::{AllocError, Global};
 
-impl Parser<'_> {
+impl<'a> Parser<'a> {
     /// The step after a compound; nothing where the item ends.
     #[tactic(auto, unfolding(crate::specs::Reading::next_step, crate::specs::Reading::step))]
-    pub(crate) fn next_step(&mut self) -> Result<Option<Judged<Combinator>>, SelectorError>
+    pub(crate) fn next_step(&mut self) -> Result<Option<Judged<'a, Combinator>>, SelectorError>
         ensures reads { Reads (option_map step_judgement) result self.new.reader
             (giving (option_map (judged_step (is_inside self.old.context.nesting)))
             (next_step (nesting_of self.old.context.nesting) self.old.reader)) }
@@ -31,14 +31,17 @@ impl Parser<'_> {
         if self.reader.is_at_stop(self.context.nesting) {
             return Ok(None);
         }
+        let left = self.reader.rest();
         let step = match self.reader.peek() {
             Some(Token::Delim('>')) => Some(Judged::Kept(Combinator::Child)),
-            Some(Token::Delim('+')) => Some(Judged::Refused(SelectorError::UnsupportedCombinator(
-                '+',
-            ))),
-            Some(Token::Delim('~')) => Some(Judged::Refused(SelectorError::UnsupportedCombinator(
-                '~',
-            ))),
+            Some(Token::Delim('+')) => Some(Judged::Refused(Refusal {
+                cause: SelectorError::UnsupportedCombinator('+'),
+                left,
+            })),
+            Some(Token::Delim('~')) => Some(Judged::Refused(Refusal {
+                cause: SelectorError::UnsupportedCombinator('~'),
+                left,
+            })),
             _ => None,
         };
         if step.is_some() {
@@ -48,7 +51,10 @@ impl Parser<'_> {
             return Err(SelectorError::UnexpectedToken);
         }
         if self.context.nesting == Nesting::InFunction {
-            return Ok(Some(Judged::Refused(SelectorError::UnsupportedPseudoClassOrElement)));
+            return Ok(Some(Judged::Refused(Refusal {
+                cause: SelectorError::UnsupportedPseudoClassOrElement,
+                left,
+            })));
         }
         Ok(Some(step.unwrap_or(Judged::Kept(Combinator::Descendant))))
     }
@@ -56,39 +62,39 @@ impl Parser<'_> {
 
 /// An item of one compound.
 #[tactic(auto, using(crate::proofs::TreeRows::row_starts))]
-pub(crate) fn alone(alloc: Global, first: Judged<Compound>) -> Judged<ComplexSelector>
-    ensures { judgement item_of result ≡ judging.alone (judgement compound_of first) }
+pub(crate) fn alone<'a>(alloc: Global, first: Judged<'a, Compound>) -> Judged<'a, ComplexSelector>
+    ensures { judgement item_of result ≡ judging.alone (judgement compound_of first.entry) }
 {
     match first {
         Judged::Kept(first) => Judged::Kept(ComplexSelector {
             first,
             rest: Vec::new(alloc),
         }),
-        Judged::Refused(cause) => Judged::Refused(cause),
+        Judged::Refused(refusal) => Judged::Refused(refusal),
     }
 }
 
 /// Adds a compound to an item: the compound is judged first, and then the step.
 #[tactic(auto, using(crate::proofs::TreeRows::push_steps))]
-pub(crate) fn add_compound(
-    item: &mut Judged<ComplexSelector>,
-    step: Judged<Combinator>,
-    compound: Judged<Compound>,
+pub(crate) fn add_compound<'a>(
+    item: &mut Judged<'a, ComplexSelector>,
+    step: Judged<'a, Combinator>,
+    compound: Judged<'a, Compound>,
 ) -> Result<(), AllocError>
     ensures { OnOk result (judgement item_of item.new
-        ≡ judging.with_compound (judgement item_of item.old) (step_judgement step) (judgement compound_of compound)) }
+        ≡ judging.with_compound (judgement item_of item.old) (step_judgement step.entry) (judgement compound_of compound.entry)) }
 {
     let compound = match compound {
         Judged::Kept(compound) => compound,
-        Judged::Refused(cause) => {
-            *item = Judged::Refused(cause);
+        Judged::Refused(refusal) => {
+            *item = Judged::Refused(refusal);
             return Ok(());
         }
     };
     let combinator = match step {
         Judged::Kept(combinator) => combinator,
-        Judged::Refused(cause) => {
-            *item = Judged::Refused(cause);
+        Judged::Refused(refusal) => {
+            *item = Judged::Refused(refusal);
             return Ok(());
         }
     };
@@ -102,17 +108,17 @@ pub(crate) fn add_compound(
 #[tactic(auto, using(crate::proofs::TreeRows::push_steps))]
 // Called, its arguments would make each step of a recursion take more of the stack.
 #[inline(always)]
-pub(crate) fn add_item(
-    list: &mut Judged<SelectorList>,
-    item: Judged<ComplexSelector>,
+pub(crate) fn add_item<'a>(
+    list: &mut Judged<'a, SelectorList>,
+    item: Judged<'a, ComplexSelector>,
 ) -> Result<(), AllocError>
     ensures { OnOk result (judgement list_of list.new
-        ≡ judging.with_item (judgement list_of list.old) (judgement item_of item)) }
+        ≡ judging.with_item (judgement list_of list.old) (judgement item_of item.entry)) }
 {
     if let Judged::Kept(kept) = list {
         match item {
             Judged::Kept(item) => kept.items.push(item)?,
-            Judged::Refused(cause) => *list = Judged::Refused(cause),
+            Judged::Refused(refusal) => *list = Judged::Refused(refusal),
         }
     }
     Ok(())

@@ -1,7 +1,6 @@
 //! Pseudo-classes that take no list (Selectors 4, section 14).
 
-ghost use Rattle.std.specs.Prelude.{◌≡◌, List};
-ghost use Rattle.lol_css.specs.Tokens as tokens;
+ghost use Rattle.std.specs.Prelude.{◌≡◌};
 ghost use Rattle.lol_css.specs.Rules.{giving};
 ghost use Rattle.lol_css.specs.Reading.{function_part, ident_part, is_one_of, late_words};
 ghost use Rattle.lol_css.specs.Accepting.{judged_part};
@@ -10,7 +9,7 @@ ghost use Rattle.lol_css.specs.TreeViews.{part_of};
 
 use crate::error::SelectorError;
 use crate::selector::SimpleSelector;
-use crate::selectors::judged::Judged;
+use crate::selectors::judged::{Judged, Refusal};
 use crate::syntax::an_plus_b::an_plus_b;
 use crate::syntax::reader::Reader;
 use crate::syntax::texts::Name;
@@ -28,11 +27,14 @@ fn is_late_word(name: Name<'_>) -> bool
         || name.is_word("scope")
 }
 
-/// A pseudo-class of this name without an argument.
+/// A pseudo-class without an argument; the next token is its name, which stays.
 #[tactic(auto, unfolding(crate::specs::Reading::ident_part, crate::specs::Accepting::judged_part))]
-pub(crate) fn ident_part(name: Name<'_>) -> Result<Judged<SimpleSelector>, SelectorError>
-    ensures { (tokens : List tokens.Token) → ReadsFirst (judgement part_of) result tokens
-        (giving judged_part (ident_part (points_of name.entry) tokens)) }
+pub(crate) fn ident_part<'a>(
+    name: Name<'a>,
+    reader: &Reader<'a>,
+) -> Result<Judged<'a, SimpleSelector>, SelectorError>
+    ensures { ReadsFirst (judgement part_of) result reader.now
+        (giving judged_part (ident_part (points_of name.entry) reader.now)) }
 {
     let first = NthChild::new(0, 1);
     if name.is_word("first-child") {
@@ -48,17 +50,20 @@ pub(crate) fn ident_part(name: Name<'_>) -> Result<Judged<SimpleSelector>, Selec
         }));
     }
     if is_late_word(name) {
-        return Ok(Judged::Refused(SelectorError::UnsupportedPseudoClassOrElement));
+        return Ok(Judged::Refused(Refusal {
+            cause: SelectorError::UnsupportedPseudoClassOrElement,
+            left: reader.rest(),
+        }));
     }
     Err(SelectorError::UnsupportedPseudoClassOrElement)
 }
 
 /// A pseudo-class whose argument is no list; the next token is its name with the parenthesis.
 #[tactic(auto, unfolding(crate::specs::Reading::function_part, crate::specs::Accepting::judged_part))]
-pub(crate) fn function_part(
-    name: Name<'_>,
-    reader: &mut Reader<'_>,
-) -> Result<Judged<SimpleSelector>, SelectorError>
+pub(crate) fn function_part<'a>(
+    name: Name<'a>,
+    reader: &mut Reader<'a>,
+) -> Result<Judged<'a, SimpleSelector>, SelectorError>
     ensures { Reads (judgement part_of) result reader.new
         (giving judged_part (function_part (points_of name.entry) reader.old)) }
 {
@@ -76,9 +81,13 @@ pub(crate) fn function_part(
         return Ok(Judged::Kept(SimpleSelector::Nth { of_type: true, nth }));
     }
     if name.is_word("nth-last-child") || name.is_word("nth-last-of-type") {
+        let late = Judged::Refused(Refusal {
+            cause: SelectorError::UnsupportedPseudoClassOrElement,
+            left: reader.rest(),
+        });
         reader.advance();
         let _ = an_plus_b(reader)?;
-        return Ok(Judged::Refused(SelectorError::UnsupportedPseudoClassOrElement));
+        return Ok(late);
     }
     Err(SelectorError::UnsupportedPseudoClassOrElement)
 }

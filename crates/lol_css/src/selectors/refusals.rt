@@ -1,10 +1,9 @@
 //! Which item of the outermost list is refused, and from which token on.
 
-ghost use Rattle.std.specs.Prelude.{◌≡◌, ◌-◌, length, IfOk};
+ghost use Rattle.std.specs.Prelude.{◌≡◌, IfOk};
 ghost use Rattle.std.specs.Option.{option_map};
 ghost use Rattle.lol_css.specs.Points.{◌or◌};
 ghost use Rattle.lol_css.specs.Tokens.{tokens_of};
-ghost use Rattle.lol_css.specs.Rules.{skip_space};
 ghost use Rattle.lol_css.specs.Locating.{refused_token};
 ghost use Rattle.lol_css.specs.Views.{judgement, judged_item_in, read_of, left_of, numbers, late_place};
 ghost use Rattle.lol_css.specs.TreeViews.{item_of};
@@ -13,7 +12,8 @@ use crate::error::SelectorError;
 use crate::selector::ComplexSelector;
 use crate::selectors::judged::Judged;
 use crate::selectors::parser::Parser;
-use crate::syntax::reader::{Nesting, Reader};
+use crate::syntax::reader::Nesting;
+use crate::syntax::tokens::count_tokens;
 use std::alloc::{AllocError, Global};
 
 /// An item of the outermost list that is refused.
@@ -25,9 +25,9 @@ pub(crate) struct RefusedItem {
     pub token: usize,
 }
 
-impl Parser<'_> {
+impl<'a> Parser<'a> {
     /// An item; nothing where it is refused as it is read, which leaves the reader at the first token that is refused.
-    fn item_if_read(&mut self) -> Result<Option<Judged<ComplexSelector>>, AllocError>
+    fn item_if_read(&mut self) -> Result<Option<Judged<'a, ComplexSelector>>, AllocError>
         ensures read { IfOk result (λ found. option_map (judgement item_of) found
             ≡ read_of (judged_item_in self.old.context self.old.reader)) }
         ensures left { IfOk result (λ _. self.new.reader ≡ left_of (judged_item_in self.old.context self.old.reader)) }
@@ -41,29 +41,25 @@ impl Parser<'_> {
     }
 }
 
-/// The first item that is refused late: the one that was found, or this one, which has this number and begins here.
+/// The first item that is refused late: the one that was found, or this one, which has this number, of a text of so many tokens.
 fn first_late(
     found: Option<RefusedItem>,
-    item: Judged<ComplexSelector>,
+    item: &Judged<'_, ComplexSelector>,
     number: usize,
-    mut start: Reader<'_>,
     all: usize,
 ) -> Option<RefusedItem>
-    ensures { option_map numbers result ≡ (option_map numbers found
-        or late_place (judgement item_of item) (number, all - length (skip_space start.entry))) }
+    ensures { option_map numbers result
+        ≡ (option_map numbers found or late_place number all (judgement item_of item.now)) }
 {
     if found.is_some() {
         return found;
     }
     match item {
         Judged::Kept(_) => None,
-        Judged::Refused(_) => {
-            start.skip_space();
-            Some(RefusedItem {
-                number,
-                token: all.saturating_sub(start.count()),
-            })
-        }
+        Judged::Refused(refusal) => Some(RefusedItem {
+            number,
+            token: all.saturating_sub(count_tokens(refusal.left)),
+        }),
     }
 }
 
@@ -79,12 +75,11 @@ pub(crate) fn refused_item(
     let mut number = 0;
     let mut late = None;
     'items: loop {
-        let start = parser.reader.fork();
         let Some(item) = parser.item_if_read()? else {
             let token = all.saturating_sub(parser.reader.count());
             return Ok(Some(RefusedItem { number, token }));
         };
-        late = first_late(late, item, number, start, all);
+        late = first_late(late, &item, number, all);
         if parser.reader.is_at_end(Nesting::Outside) {
             return Ok(late);
         }

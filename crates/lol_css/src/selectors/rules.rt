@@ -24,11 +24,11 @@ use crate::syntax::tokens::Token;
 /// How many compounds one item has at most after its first.
 const MAX_FURTHER: u32 = 1023;
 
-impl Parser<'_> {
+impl<'a> Parser<'a> {
     /// A part of a compound; nothing where the next token begins none.
     #[tactic(auto, unfolding(crate::specs::Reading::part, crate::specs::Accepting::judged_part))]
     #[cycle(rules)]
-    fn part(&mut self) -> Result<Option<Judged<SimpleSelector>>, SelectorError>
+    fn part(&mut self) -> Result<Option<Judged<'a, SimpleSelector>>, SelectorError>
         ensures reads { ReadsUnlessMemory (option_map (judgement part_of)) result self.new.reader
             (giving (option_map judged_part)
             (part (inner_list self.old.context.depth_left) (nesting_of self.old.context.nesting) self.old.reader)) }
@@ -58,7 +58,7 @@ impl Parser<'_> {
     /// A pseudo-class, after its colon.
     #[tactic(auto, unfolding(crate::specs::Reading::pseudo))]
     #[cycle(rules)]
-    fn pseudo(&mut self) -> Result<Judged<SimpleSelector>, SelectorError>
+    fn pseudo(&mut self) -> Result<Judged<'a, SimpleSelector>, SelectorError>
         ensures reads { ReadsUnlessMemory (judgement part_of) result self.new.reader
             (giving judged_part
             (pseudo (inner_list self.old.context.depth_left) (nesting_of self.old.context.nesting) self.old.reader)) }
@@ -69,7 +69,7 @@ impl Parser<'_> {
         }
         match self.reader.peek() {
             Some(Token::Ident(name)) => {
-                let part = ident_part(name)?;
+                let part = ident_part(name, &self.reader)?;
                 self.reader.advance();
                 Ok(part)
             }
@@ -97,7 +97,7 @@ impl Parser<'_> {
     fn logical_part(
         &mut self,
         combination: LogicalCombination,
-    ) -> Result<Judged<SimpleSelector>, SelectorError>
+    ) -> Result<Judged<'a, SimpleSelector>, SelectorError>
         ensures reads { ReadsUnlessMemory (judgement part_of) result self.new.reader
             (giving judged_part
             (giving (drafts.Logical combination) (inner_list self.old.context.depth_left self.old.reader))) }
@@ -115,13 +115,13 @@ impl Parser<'_> {
         self.context = outer;
         match list? {
             Judged::Kept(list) => Ok(Judged::Kept(combination.of(list))),
-            Judged::Refused(cause) => Ok(Judged::Refused(cause)),
+            Judged::Refused(refusal) => Ok(Judged::Refused(refusal)),
         }
     }
 
     /// The parts of a compound after those that it begins with.
     #[cycle(rules)]
-    fn more_parts(&mut self, start: Compound) -> Result<Judged<Compound>, SelectorError>
+    fn more_parts(&mut self, start: Compound) -> Result<Judged<'a, Compound>, SelectorError>
         ensures reads { ReadsUnlessMemory (judgement compound_of) result self.new.reader
             (judged_parts (inner_list self.old.context.depth_left) (nesting_of self.old.context.nesting)
             (Ok (compound_of start)) self.old.reader) }
@@ -136,7 +136,7 @@ impl Parser<'_> {
 
     /// A compound; one that reads nothing is refused with the cause `empty`.
     #[cycle(rules)]
-    fn compound(&mut self, empty: SelectorError) -> Result<Judged<Compound>, SelectorError>
+    fn compound(&mut self, empty: SelectorError) -> Result<Judged<'a, Compound>, SelectorError>
         ensures reads { ReadsUnlessMemory (judgement compound_of) result self.new.reader
             (giving judged_compound (compound (inner_list self.old.context.depth_left)
             (nesting_of self.old.context.nesting) empty self.old.reader)) }
@@ -156,7 +156,7 @@ impl Parser<'_> {
     #[cycle(rules)]
     // Called, it would make each step of a recursion take more of the stack.
     #[inline(always)]
-    pub(crate) fn item(&mut self) -> Result<Judged<ComplexSelector>, SelectorError>
+    pub(crate) fn item(&mut self) -> Result<Judged<'a, ComplexSelector>, SelectorError>
         ensures reads { ReadsUnlessMemory (judgement item_of) result self.new.reader
             (judged_item_in self.old.context self.old.reader) }
         ensures context { self.new.context ≡ self.old.context }
@@ -178,7 +178,7 @@ impl Parser<'_> {
 
     /// A list of items separated by commas, and its end.
     #[cycle(rules)]
-    pub(crate) fn list(&mut self) -> Result<Judged<SelectorList>, SelectorError>
+    pub(crate) fn list(&mut self) -> Result<Judged<'a, SelectorList>, SelectorError>
         ensures reads { ReadsUnlessMemory (judgement list_of) result self.new.reader
             (giving (judged (is_inside self.old.context.nesting))
             (list (inner_list self.old.context.depth_left) (nesting_of self.old.context.nesting) self.old.reader)) }

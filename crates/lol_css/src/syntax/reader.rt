@@ -27,33 +27,45 @@ pub(crate) enum Nesting {
 #[derive(Drop)]
 pub(crate) struct Reader<'a> {
     ahead: Option<Token<'a>>,
+
+    /// The text from the next token on, and after it.
+    start: &'a [char],
     text: &'a [char],
 }
 
 impl<'a> Model for Reader<'a> {
+    ghost use Rattle.std.specs.Prelude.{◌≡◌, List, [], None};
+    ghost use Rattle.lol_css.specs.Tokens as tokens;
+
     ghost Value = { List tokens.Token };
+
+    ghost use Rattle.std.specs.Option.{option_map};
+    ghost use Rattle.lol_css.specs.Tokens.{tokens_of, with_first};
+    ghost use Rattle.lol_css.specs.Views.{token_of};
 
     ghost view = { λ r. with_first (option_map token_of r.ahead) (tokens_of r.text.now) };
 
-    ghost invariant = { λ r. r.ahead ≡ None → tokens_of r.text.now ≡ [] };
+    ghost invariant = { λ r. (r.ahead ≡ None → tokens_of r.text.now ≡ [])
+        × (tokens_of r.start.now ≡ with_first (option_map token_of r.ahead) (tokens_of r.text.now)) };
 }
 
 impl<'a> Reader<'a> {
     pub(crate) fn new(text: &'a [char]) -> Reader<'a>
         ensures { result ≡ tokens_of text.now }
     {
-        let (ahead, text) = first_token(text);
-        Reader { ahead, text }
+        let (ahead, rest) = first_token(text);
+        Reader {
+            ahead,
+            start: text,
+            text: rest,
+        }
     }
 
-    /// Another reader of the same tokens.
-    pub(crate) fn fork(&self) -> Reader<'a>
-        ensures { result ≡ self.now }
+    /// The text of the tokens that are left.
+    pub(crate) fn rest(&self) -> &'a [char]
+        ensures { tokens_of result.now ≡ self.now }
     {
-        Reader {
-            ahead: self.ahead,
-            text: self.text,
-        }
+        self.start
     }
 
     /// How many tokens are left.
@@ -78,6 +90,7 @@ impl<'a> Reader<'a> {
         ensures { IsFirst self.old (option_map token_of result) self.new }
     {
         let (ahead, text) = first_token(self.text);
+        self.start = self.text;
         self.text = text;
         mem::replace(&mut self.ahead, ahead)
     }

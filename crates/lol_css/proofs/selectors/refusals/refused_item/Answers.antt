@@ -27,7 +27,7 @@ returns-then-is_at_end c =
     let v = c.items.invariant in
     let read = rw (v.nesting, v.depth, c.in-Some.is) at c.in_ok-item.ensures.read in
     let left = rw (v.nesting, v.depth) at c.in_ok-item.ensures.left in
-    rw (c.first_late-late.ensures, c.count-all.ensures, c.outermost-parser.ensures.reader, c.fork-start.ensures)
+    rw (c.first_late-late.ensures, c.count-all.ensures, c.outermost-parser.ensures.reader)
     (sym (told-ends (tokens_of c.args.points.now) c.items.number (option_map numbers c.items.late) c.items.parser.reader (judgement item_of c.in-Some.item) (sym read) (rw left at (sym c.if-is_at_end.ensures))) ∙ v.tells)
 
 pub overflow_add-number : goal.overflow_add-number
@@ -36,6 +36,29 @@ overflow_add-number c =
     let read = rw (v.nesting, v.depth, c.in-Some.is) at c.in_ok-item.ensures.read in
     let left = rw (v.nesting, v.depth) at c.in_ok-item.ensures.left in
     omega (arith, told-shorter c.items.parser.reader (judgement item_of c.in-Some.item) (sym read) (rw left at (sym c.if-is_at_end.ensures)), v.few, c.count-all.type_inv)
+
+pub items-smaller-else-is_at_end : goal.items-smaller-else-is_at_end
+items-smaller-else-is_at_end c =
+    let v = c.items.invariant in
+    let read = rw (v.nesting, v.depth, c.in-Some.is) at c.in_ok-item.ensures.read in
+    let left = rw (v.nesting, v.depth) at c.in_ok-item.ensures.left in
+    rw (c.advance.ensures, left) (told-shorter c.items.parser.reader (judgement item_of c.in-Some.item) (sym read) (rw left at (sym c.if-is_at_end.ensures)))
+
+pub items-preserved-else-is_at_end : goal.items-preserved-else-is_at_end
+items-preserved-else-is_at_end c =
+    let v = c.items.invariant in
+    let read = rw (v.nesting, v.depth, c.in-Some.is) at c.in_ok-item.ensures.read in
+    let left = rw (v.nesting, v.depth) at c.in_ok-item.ensures.left in
+    let end = rw left at (sym c.if-is_at_end.ensures) in
+    let less = told-shorter c.items.parser.reader (judgement item_of c.in-Some.item) (sym read) end in
+    record {
+      tells =
+          rw (c.first_late-late.ensures, c.count-all.ensures, c.outermost-parser.ensures.reader, c.advance.ensures, left)
+          (sym (told-goes_on (tokens_of c.args.points.now) c.items.number (option_map numbers c.items.late) c.items.parser.reader (judgement item_of c.in-Some.item) (sym read) end) ∙ v.tells);
+      nesting = rw c.item_if_read.ensures.context v.nesting;
+      depth = rw c.item_if_read.ensures.context v.depth;
+      few = rw (c.advance.ensures, left) (omega (arith, less, v.few));
+    }
 
 pub items-smaller : goal.items-smaller
 items-smaller c =
@@ -53,7 +76,7 @@ items-preserved c =
     let less = told-shorter c.items.parser.reader (judgement item_of c.in-Some.item) (sym read) end in
     record {
       tells =
-          rw (c.first_late-late.ensures, c.count-all.ensures, c.outermost-parser.ensures.reader, c.fork-start.ensures, c.advance.ensures, left)
+          rw (c.first_late-late.ensures, c.count-all.ensures, c.outermost-parser.ensures.reader, c.advance.ensures, left)
           (sym (told-goes_on (tokens_of c.args.points.now) c.items.number (option_map numbers c.items.late) c.items.parser.reader (judgement item_of c.in-Some.item) (sym read) end) ∙ v.tells);
       nesting = rw c.item_if_read.ensures.context v.nesting;
       depth = rw c.item_if_read.ensures.context v.depth;

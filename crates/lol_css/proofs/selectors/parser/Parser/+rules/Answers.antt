@@ -5,7 +5,7 @@ use Rattle.lol_css.specs.Tokens.{Delim}
 use Rattle.lol_css.specs.Rules.{at_end, InFunction}
 use Rattle.lol_css.specs.Reading.{inner_list, list}
 use Rattle.lol_css.specs.Judging.{is_empty}
-use Rattle.lol_css.specs.Views.{nesting_of, is_inside, judgement, step_judgement}
+use Rattle.lol_css.specs.Views.{nesting_of, is_inside, judgement, step_judgement, refusal_of}
 use Rattle.lol_css.specs.TreeViews.{compound_of, item_of, list_of, part_of}
 use Rattle.lol_css.proofs.TreeRows.{list-none}
 use Rattle.lol_css.proofs.Shorter.{inner_list-leaves}
@@ -171,7 +171,7 @@ logical_part-returns-in-Kept-clause-reads t c =
 pub logical_part-returns-in-Refused-clause-reads : goal.logical_part-returns-in-Refused-clause-reads
 logical_part-returns-in-Refused-clause-reads t c =
     rw (inner_list-opens c.args.self.now.context.depth_left c.args.self.now.reader c.if-self-eq0.false)
-    (logical-read c.args.combination (list (inner_list (c.args.self.now.context.depth_left - 1)) InFunction c.args.self.now.reader) (Err c.in-Refused.cause) c.list-list.new.self.reader (rw c.in-Refused.is at c.in_ok-list.ensures.reads))
+    (logical-read c.args.combination (list (inner_list (c.args.self.now.context.depth_left - 1)) InFunction c.args.self.now.reader) (Err (refusal_of c.in-Refused.refusal)) c.list-list.new.self.reader (rw c.in-Refused.is at c.in_ok-list.ensures.reads))
 
 pub part-returns-in_err-class_name-in-Some-Delim-eq46-clause-reads : goal.part-returns-in_err-class_name-in-Some-Delim-eq46-clause-reads
 part-returns-in_err-class_name-in-Some-Delim-eq46-clause-reads t c =
