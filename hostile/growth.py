@@ -48,6 +48,25 @@ def selectors_of(pattern):
     return lambda count: script([pattern.format(number) for number in range(count)], [start("a")])
 
 
+# Two paths of (index among siblings, step), to lists that one product of 64 bits a step gave the same number.
+PATHS_OF_ONE_PRODUCT = [
+    [(10, " "), (15, " > "), (62, " > "), (0, " > "), (0, " > ")],
+    [(39, " "), (9, " "), (20, " > "), (61, " > "), (2_021, " > ")],
+]
+
+
+def two_lists_of_one_product(count):
+    """So many equal compounds in each of two lists, whose numbers agreed when a list was known by a product and not by its path."""
+    selectors = []
+    for path in PATHS_OF_ONE_PRODUCT:
+        above = ""
+        for index, step in path:
+            selectors += [f"{above}x{number}" for number in range(index + 1)]
+            above += f"x{index}{step}"
+        selectors += [f"{above}.k{number}" for number in range(count)]
+    return script(selectors, [start("a")])
+
+
 def falling_ids(count):
     """A selector under so many ids that lie far apart, the greatest first."""
     lines = [f"select\t{4_200_000_000 - 32_000 * number}\tp" for number in range(count)]
@@ -188,6 +207,7 @@ ROWS += [
     ("selectors of a class", 40_000, selectors_of(".k{}")),
     ("selectors of `:not`", 40_000, selectors_of(":not(x{})")),
     ("selectors of two steps", 40_000, selectors_of("main .k{} > a")),
+    ("selectors in two lists that one product named alike", 5_000, two_lists_of_one_product),
     ("one selector, ids far apart, the greatest first", 25_000, falling_ids),
     ("siblings", 25_000, siblings),
     ("nested elements, 200 selectors", 25_000, nested),

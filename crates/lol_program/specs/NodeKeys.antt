@@ -1,5 +1,5 @@
 -- The keys by which nodes are found: numbers of 64 bits.
-use Rattle.std.specs.Prelude.{ℕ, ℤ, ◌*◌, ◌/◌, ◌%◌, ◌^◌, List, [], ◌∷◌, fold, bit_xor}
+use Rattle.std.specs.Prelude.{ℕ, ℤ, ◌+◌, ◌*◌, ◌%◌, ◌^◌, List, [], ◌∷◌, fold}
 use Rattle.std.specs.Hash as fed
 use Rattle.std.specs.Hash.DefaultHasher as sip
 use Rattle.std.specs.declared.hash.DefaultHasher.{DefaultHasher}
@@ -76,21 +76,19 @@ abbrev mutual
 
 -- 3. Keys
 
--- the list of the nodes that stand under no other
-abbrev pub root_list : ℕ
-root_list = 10723151780598845931
+-- A list is known by a hasher that was given the path to it: this one, of the nodes that stand under no other, was given none.
+abbrev pub root_list : DefaultHasher
+root_list = sip.initial
 
--- an odd number for each step, with bits in no order
-abbrev pub multiplier : Combinator → ℕ
-multiplier Child = 11400714819323198485
-multiplier Descendant = 13787848793156543929
+-- what CSS writes for a step, which is no salt
+abbrev pub step_byte : Combinator → ℕ
+step_byte Child = 62
+step_byte Descendant = 32
 
--- the list of the nodes by a step under the node at an index of a list
-abbrev pub list_under : ℕ → ℕ → Combinator → ℕ
-list_under list index step =
-    let product = (bit_xor list index * multiplier step) % 2 ^ 64 in
-    bit_xor product (product / 2 ^ 32)
+-- the list of the nodes by a step under the node at an index of a list: one word, whose first byte is that of the step
+abbrev pub list_under : DefaultHasher → ℕ → Combinator → DefaultHasher
+list_under list index step = fold sip.write list (fed.u64 ((index * 256 % 2 ^ 64 + step_byte step) % 2 ^ 64))
 
--- the node with these tests in a list
-abbrev pub node_key : ℕ → Compound → ℕ
-node_key list compound = sip.finish (compound_hashed (fold sip.write sip.initial (fed.u64 list)) compound)
+-- the node with these tests in a list, with a salt
+abbrev pub node_key : DefaultHasher → ℕ → Compound → ℕ
+node_key list salt compound = sip.finish (compound_hashed (byte_hashed list salt) compound)

@@ -8,7 +8,7 @@ ghost use Rattle.lol_program.specs.Views.{forest_of};
 use crate::ast_node::{self, AstNode};
 use crate::node_id::IdForNode;
 use crate::node_index::NodeIndex;
-use crate::node_key::ROOT_LIST;
+use crate::node_key::root_list;
 use lol_css::{ComplexSelector, Selector, SelectorList};
 use lol_memory::MatchId;
 use std::alloc::{AllocError, Global};
@@ -180,7 +180,7 @@ impl Ast {
         ast_node::add_path(
             &mut self.node_index,
             &mut self.root,
-            ROOT_LIST,
+            &mut root_list(),
             &item.first,
             &item.rest,
             id,
@@ -249,7 +249,7 @@ impl Ast {
         ast_node::reserve_id(
             &self.node_index,
             &self.root,
-            ROOT_LIST,
+            &mut root_list(),
             &item.first,
             &item.rest,
             match_id,

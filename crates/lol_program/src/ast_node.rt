@@ -11,11 +11,12 @@ ghost use Rattle.lol_program.specs.Indices.{HasIndex, IsNowhere};
 
 use crate::node_id::IdForNode;
 use crate::node_index::NodeIndex;
-use crate::node_key::list_under;
+use crate::node_key::add_step;
 use crate::predicate::Predicate;
 use lol_css::{Combinator, Compound};
 use lol_memory::{DenseHashSet, MatchId};
 use std::alloc::{AllocError, Global};
+use std::hash::DefaultHasher;
 
 /// A compound of the selectors that begin alike up to it (lol_html's `AstNode`).
 #[derive(Debug, Drop, PartialEq, Eq)]
@@ -42,16 +43,16 @@ fn fresh_node(alloc: Global, predicate: Predicate) -> AstNode
     }
 }
 
-/// The index of the node with the tests of a compound, in the list with the key `list`. It is made last where there is none.
+/// The index of the node with the tests of a compound, in a list. It is made last where there is none.
 // Inlined, it would make each step of a recursion take more of the stack.
 #[inline(never)]
 fn index_for(
     node_index: &mut NodeIndex,
     nodes: &mut Vec<AstNode>,
-    list: u64,
+    list: &DefaultHasher,
     compound: &Compound,
 ) -> Result<usize, AllocError>
-    requires indexed { IsIndexed node_index.old list (forest_of nodes.old.items) }
+    requires indexed { IsIndexed node_index.old list.now (forest_of nodes.old.items) }
     requires differ { SiblingsDiffer (forest_of nodes.old.items) }
     ensures index { IfOk result
         (HasIndex (tests_of_compound compound.now) (map node_of nodes.old.items) (map node_of nodes.new.items)) }
@@ -59,7 +60,7 @@ fn index_for(
     ensures unchanged { OnErr result (nodes.new.items ≡ nodes.old.items) }
     ensures count { node_index.new.node_count + size (forest_of nodes.old.items)
         ≡ node_index.old.node_count + size (forest_of nodes.new.items) }
-    ensures indexed { IsIndexed node_index.new list (forest_of nodes.new.items) }
+    ensures indexed { IsIndexed node_index.new list.now (forest_of nodes.new.items) }
     ensures keeps { KeepsKeys node_index.old node_index.new }
 {
     if let Some(index) = node_index.index_of(nodes, list, compound) {
@@ -76,16 +77,17 @@ fn index_for(
     Ok(index)
 }
 
-/// Makes the nodes of an item that aren't there, in the list where it begins, and gives its last node an id or none.
+/// Makes the nodes of an item that aren't there, in the list where it begins, and gives its last node an id or none. `list` goes down
+/// with it.
 pub(crate) fn add_path(
     node_index: &mut NodeIndex,
     nodes: &mut Vec<AstNode>,
-    list: u64,
+    list: &mut DefaultHasher,
     first: &Compound,
     rest: &[(Combinator, Compound)],
     id: IdForNode,
 ) -> Result<(), AllocError>
-    requires indexed { IsIndexed node_index.old list (forest_of nodes.old.items) }
+    requires indexed { IsIndexed node_index.old list.old (forest_of nodes.old.items) }
     requires differ { SiblingsDiffer (forest_of nodes.old.items) }
     requires fits { IsReserved id
         → StandsWith (Fits id) (tests_of_compound first.now) (steps_of rest.now) (forest_of nodes.old.items) }
@@ -98,7 +100,7 @@ pub(crate) fn add_path(
         → IsOk result }
     ensures count { node_index.new.node_count + size (forest_of nodes.old.items)
         ≡ node_index.old.node_count + size (forest_of nodes.new.items) }
-    ensures indexed { IsIndexed node_index.new list (forest_of nodes.new.items) }
+    ensures indexed { IsIndexed node_index.new list.old (forest_of nodes.new.items) }
     ensures keeps { KeepsKeys node_index.old node_index.new }
 {
     let index = index_for(node_index, nodes, list, first)?;
@@ -106,7 +108,7 @@ pub(crate) fn add_path(
     match rest.split_first() {
         None => id.add_to(&mut node.match_ids),
         Some(((combinator, compound), rest)) => {
-            let list = list_under(list, index, *combinator);
+            add_step(list, index, *combinator);
             match combinator {
                 Combinator::Child => add_path(
                     node_index,
@@ -124,16 +126,17 @@ pub(crate) fn add_path(
     }
 }
 
-/// An id for the last node of a path that stands in the list where it begins, with memory of its own where the node has no room.
+/// An id for the last node of a path that stands in the list where it begins, with memory of its own where the node has no room. `list`
+/// goes down with it.
 pub(crate) fn reserve_id(
     node_index: &NodeIndex,
     nodes: &[AstNode],
-    list: u64,
+    list: &mut DefaultHasher,
     first: &Compound,
     rest: &[(Combinator, Compound)],
     id: MatchId,
 ) -> Result<IdForNode, AllocError>
-    requires indexed { IsIndexed node_index.now list (forest_of nodes.now) }
+    requires indexed { IsIndexed node_index.now list.old (forest_of nodes.now) }
     requires differ { SiblingsDiffer (forest_of nodes.now) }
     requires stands { StandsUnder (tests_of_compound first.now) (steps_of rest.now) (forest_of nodes.now) }
     ensures given { IfOk result (λ reserved. id_in reserved ≡ Some id) }
@@ -147,7 +150,7 @@ pub(crate) fn reserve_id(
     match rest.split_first() {
         None => IdForNode::reserve(&node.match_ids, id),
         Some(((combinator, compound), rest)) => {
-            let list = list_under(list, index, *combinator);
+            add_step(list, index, *combinator);
             match combinator {
                 Combinator::Child => reserve_id(
                     node_index,

@@ -1,4 +1,4 @@
-//! The keys by which nodes are found: made of their tests, and of the indices of the nodes above them.
+//! The keys by which nodes are found: made of their tests, and of the steps and indices of the path to their list.
 
 ghost use Rattle.std.specs.Prelude.{◌≡◌, IfSome};
 ghost use Rattle.lol_css.specs.TreeViews.{part_of, item_of, list_of};
@@ -15,35 +15,42 @@ use std::hash::{DefaultHasher, Hasher};
 /// After a text, and after a list: no text in UTF-8 has this byte, and no kind of test.
 const END: u8 = 255;
 
-/// The key of the list of the nodes that stand under no other.
-pub(crate) const ROOT_LIST: u64 = 10_723_151_780_598_845_931;
-
-/// The key of the list of the nodes by a step under the node at an index of a list.
-pub(crate) fn list_under(list: u64, index: usize, combinator: Combinator) -> u64
-    ensures { result ≡ keys.list_under list index combinator }
+/// The list of the nodes that stand under no other: a hasher that was given no step.
+pub(crate) fn root_list() -> DefaultHasher
+    ensures { result ≡ keys.root_list }
 {
-    let product = (list ^ index as u64).wrapping_mul(multiplier(combinator));
-    product ^ (product >> 32)
+    DefaultHasher::new()
 }
 
-/// An odd number for each step, with bits in no order.
-fn multiplier(combinator: Combinator) -> u64
-    ensures { result ≡ keys.multiplier combinator }
+/// Goes from a list to that of the nodes by a step under the node at an index: a whole word, since a hasher takes these fastest.
+///
+/// The first byte of a word is that of its step, which is no salt, and the others hold every index that memory has room for. So no two
+/// paths with a salt and tests give a hasher the same bytes.
+pub(crate) fn add_step(list: &mut DefaultHasher, index: usize, combinator: Combinator)
+    ensures { list.new ≡ keys.list_under list.old index combinator }
+{
+    let above = (index as u64).wrapping_mul(256);
+    list.write_u64(above.wrapping_add(step_byte(combinator) as u64));
+}
+
+/// What CSS writes for a step: no salt is so great.
+fn step_byte(combinator: Combinator) -> u8
+    ensures { result ≡ keys.step_byte combinator }
 {
     match combinator {
-        Combinator::Child => 11_400_714_819_323_198_485,
-        Combinator::Descendant => 13_787_848_793_156_543_929,
+        Combinator::Child => b'>',
+        Combinator::Descendant => b' ',
     }
 }
 
-/// The key of the node with the tests of a compound in a list.
+/// The key of the node with the tests of a compound in a list, with a salt.
 // Inlined, it would make each step of a recursion take more of the stack.
 #[inline(never)]
-pub(crate) fn node_key(list: u64, compound: &Compound) -> u64
-    ensures { result ≡ keys.node_key list (tests_of_compound compound.now) }
+pub(crate) fn node_key(list: &DefaultHasher, salt: u8, compound: &Compound) -> u64
+    ensures { result ≡ keys.node_key list.now salt (tests_of_compound compound.now) }
 {
-    let mut hasher = DefaultHasher::new();
-    hasher.write_u64(list);
+    let mut hasher = *list;
+    hasher.write_u8(salt);
     for part in compound.parts.iter().rev() {
         hash_part(&mut hasher, part);
     }

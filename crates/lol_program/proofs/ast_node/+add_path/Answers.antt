@@ -1,6 +1,7 @@
 use Rattle.lol_program.specs.Predicates.{tests_of}
-use Rattle.std.proofs.Common.{arith, ℕ, suc, ◌≡◌, length, map, refl, ap, subst, ◌∙◌}
+use Rattle.std.proofs.Common.{arith, suc, ◌≡◌, length, map, refl, ap, subst, ◌∙◌}
 use Rattle.std.specs.Prelude.{slice_set}
+use Rattle.std.specs.declared.hash.DefaultHasher.{DefaultHasher}
 use Rattle.std.proofs.lemmas.Result.{on_ok_weaker, on_err_weaker}
 use Rattle.lol_memory.specs.Ids.{Ids}
 use Rattle.lol_css.specs.declared.selector.Combinator.TheVariants.{Child, Descendant}
@@ -25,11 +26,11 @@ add_path-requires t c =
     let fc = tests_of_compound c.args.first.now in
     let at = c.in_ok-index.ensures.index in
     let is = c.index_mut-node.ensures.value in
-    let list = c.args.list in
+    let list = c.args.list.now in
     let node_index = c.index_for.new.node_index in
     let indexed = c.in_ok-index.ensures.indexed in
-    let next = c.list_under-list.ensures ∙ ap (list_under list i) c.in-Child.is in
-    let asks = next_asks node_index list c.list_under-list.result i (shape (out-AstNode n)) Child next (indexed_under fc old mid i n at is node_index list indexed) (differ_under fc old mid i n at is c.requires.differ) in (
+    let next = c.add_step.ensures ∙ ap (list_under list i) c.in-Child.is in
+    let asks = next_asks node_index list c.add_step.new.list i (shape (out-AstNode n)) Child next (indexed_under fc old mid i n at is node_index list indexed) (differ_under fc old mid i n at is c.requires.differ) in (
       omega (arith, ap length c.in-Some.ensures.cases.0),
       (asks.0, (asks.1, λ reserved. stands_next (Fits c.args.id) fc c.args.rest.now c.in-Some.rest.now c.in-Some.field-0-0.now Child old mid i n c.in-Some.ensures.cases.0 c.in-Child.is at is (c.requires.fits reserved))),
     )
@@ -43,11 +44,11 @@ add_path-requires-in-Descendant t c =
     let fc = tests_of_compound c.args.first.now in
     let at = c.in_ok-index.ensures.index in
     let is = c.index_mut-node.ensures.value in
-    let list = c.args.list in
+    let list = c.args.list.now in
     let node_index = c.index_for.new.node_index in
     let indexed = c.in_ok-index.ensures.indexed in
-    let next = c.list_under-list.ensures ∙ ap (list_under list i) c.in-Descendant.is in
-    let asks = next_asks node_index list c.list_under-list.result i (shape (out-AstNode n)) Descendant next (indexed_under fc old mid i n at is node_index list indexed) (differ_under fc old mid i n at is c.requires.differ) in (
+    let next = c.add_step.ensures ∙ ap (list_under list i) c.in-Descendant.is in
+    let asks = next_asks node_index list c.add_step.new.list i (shape (out-AstNode n)) Descendant next (indexed_under fc old mid i n at is node_index list indexed) (differ_under fc old mid i n at is c.requires.differ) in (
       omega (arith, ap length c.in-Some.ensures.cases.0),
       (asks.0, (asks.1, λ reserved. stands_next (Fits c.args.id) fc c.args.rest.now c.in-Some.rest.now c.in-Some.field-0-0.now Descendant old mid i n c.in-Some.ensures.cases.0 c.in-Descendant.is at is (c.requires.fits reserved))),
     )
@@ -61,7 +62,7 @@ returns-in-None-clause-indexed t c =
     let fc = tests_of_compound c.args.first.now in
     let at = c.in_ok-index.ensures.index in
     let is = c.index_mut-node.ensures.value in
-    let list = c.args.list in
+    let list = c.args.list.now in
     let node_index = c.index_for.new.node_index in
     let indexed = c.in_ok-index.ensures.indexed in
     set_indexed fc old mid i n at is node_index list (record { predicate = (out-AstNode n).predicate; children = (out-AstNode n).children; descendants = (out-AstNode n).descendants; match_ids = c.add_to.new.ids }) indexed refl (indexed_under fc old mid i n at is node_index list indexed)
@@ -75,14 +76,14 @@ returns-in-Child-clause-indexed t c =
     let fc = tests_of_compound c.args.first.now in
     let at = c.in_ok-index.ensures.index in
     let is = c.index_mut-node.ensures.value in
-    let list = c.args.list in
+    let list = c.args.list.now in
     let node_index = c.index_for.new.node_index in
     let indexed = c.in_ok-index.ensures.indexed in
     let last = c.add_path.new.node_index in
-    let next = c.list_under-list.ensures ∙ ap (list_under list i) c.in-Child.is in
+    let next = c.add_step.ensures ∙ ap (list_under list i) c.in-Child.is in
     let grown = indexed_grows node_index last c.add_path.ensures.keeps list 0 (forest_of mid) indexed in
     let stays = indexed_under fc old mid i n at is last list grown in
-    set_indexed fc old mid i n at is last list (record { predicate = (out-AstNode n).predicate; children = c.add_path.new.nodes; descendants = (out-AstNode n).descendants; match_ids = (out-AstNode n).match_ids }) grown refl (subst (λ (l : ℕ). IsIndexed last l (forest_of c.add_path.new.nodes.items)) next c.add_path.ensures.indexed, stays.1)
+    set_indexed fc old mid i n at is last list (record { predicate = (out-AstNode n).predicate; children = c.add_path.new.nodes; descendants = (out-AstNode n).descendants; match_ids = (out-AstNode n).match_ids }) grown refl (subst (λ (l : DefaultHasher). IsIndexed last l (forest_of c.add_path.new.nodes.items)) next c.add_path.ensures.indexed, stays.1)
 
 pub returns-in-Descendant-clause-indexed : goal.returns-in-Descendant-clause-indexed
 returns-in-Descendant-clause-indexed t c =
@@ -93,14 +94,14 @@ returns-in-Descendant-clause-indexed t c =
     let fc = tests_of_compound c.args.first.now in
     let at = c.in_ok-index.ensures.index in
     let is = c.index_mut-node.ensures.value in
-    let list = c.args.list in
+    let list = c.args.list.now in
     let node_index = c.index_for.new.node_index in
     let indexed = c.in_ok-index.ensures.indexed in
     let last = c.add_path-in-Descendant.new.node_index in
-    let next = c.list_under-list.ensures ∙ ap (list_under list i) c.in-Descendant.is in
+    let next = c.add_step.ensures ∙ ap (list_under list i) c.in-Descendant.is in
     let grown = indexed_grows node_index last c.add_path-in-Descendant.ensures.keeps list 0 (forest_of mid) indexed in
     let stays = indexed_under fc old mid i n at is last list grown in
-    set_indexed fc old mid i n at is last list (record { predicate = (out-AstNode n).predicate; children = (out-AstNode n).children; descendants = c.add_path-in-Descendant.new.nodes; match_ids = (out-AstNode n).match_ids }) grown refl (stays.0, subst (λ (l : ℕ). IsIndexed last l (forest_of c.add_path-in-Descendant.new.nodes.items)) next c.add_path-in-Descendant.ensures.indexed)
+    set_indexed fc old mid i n at is last list (record { predicate = (out-AstNode n).predicate; children = (out-AstNode n).children; descendants = c.add_path-in-Descendant.new.nodes; match_ids = (out-AstNode n).match_ids }) grown refl (stays.0, subst (λ (l : DefaultHasher). IsIndexed last l (forest_of c.add_path-in-Descendant.new.nodes.items)) next c.add_path-in-Descendant.ensures.indexed)
 
 pub returns-in_err-index-clause-free : goal.returns-in_err-index-clause-free
 returns-in_err-index-clause-free t c stands =

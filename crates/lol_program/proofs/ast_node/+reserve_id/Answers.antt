@@ -30,13 +30,13 @@ reserve_id-requires t c =
     let node_index = c.args.node_index.now in
     let first = tests_of_compound c.args.first.now in
     let nodes = c.args.nodes.now in
-    let next = c.list_under-list.result in
+    let next = c.add_step.new.list in
     let node = c.index-nodes-index.result in
     let step = c.in-Some-split_first.field-0-0.now in
     let rest = c.in-Some-split_first.rest.now in
     let at : HasIndex first (map node_of nodes) (map node_of nodes) c.in-Some.index = inl (refl, c.in-Some.ensures.some) in
-    let is = c.list_under-list.ensures ∙ ap (list_under c.args.list c.in-Some.index) c.in-Child.is in
-    let asks = next_asks node_index c.args.list next c.in-Some.index (shape (out-AstNode node)) Child is (indexed_under first nodes nodes c.in-Some.index node at c.index-nodes-index.is node_index c.args.list c.requires.indexed)
+    let is = c.add_step.ensures ∙ ap (list_under c.args.list.now c.in-Some.index) c.in-Child.is in
+    let asks = next_asks node_index c.args.list.now next c.in-Some.index (shape (out-AstNode node)) Child is (indexed_under first nodes nodes c.in-Some.index node at c.index-nodes-index.is node_index c.args.list.now c.requires.indexed)
     (differ_under first nodes nodes c.in-Some.index node at c.index-nodes-index.is c.requires.differ) in
     let stands = (stands_further (λ ids. Unit {0}) first c.args.rest.now rest step Child nodes c.in-Some.index node c.in-Some-split_first.ensures.cases.0 c.in-Child.is c.in-Some.ensures.some c.index-nodes-index.is).0 c.requires.stands in (
       omega (arith, ap length c.in-Some-split_first.ensures.cases.0),
@@ -58,13 +58,13 @@ reserve_id-requires-in-Descendant t c =
     let node_index = c.args.node_index.now in
     let first = tests_of_compound c.args.first.now in
     let nodes = c.args.nodes.now in
-    let next = c.list_under-list.result in
+    let next = c.add_step.new.list in
     let node = c.index-nodes-index.result in
     let step = c.in-Some-split_first.field-0-0.now in
     let rest = c.in-Some-split_first.rest.now in
     let at : HasIndex first (map node_of nodes) (map node_of nodes) c.in-Some.index = inl (refl, c.in-Some.ensures.some) in
-    let is = c.list_under-list.ensures ∙ ap (list_under c.args.list c.in-Some.index) c.in-Descendant.is in
-    let asks = next_asks node_index c.args.list next c.in-Some.index (shape (out-AstNode node)) Descendant is (indexed_under first nodes nodes c.in-Some.index node at c.index-nodes-index.is node_index c.args.list c.requires.indexed)
+    let is = c.add_step.ensures ∙ ap (list_under c.args.list.now c.in-Some.index) c.in-Descendant.is in
+    let asks = next_asks node_index c.args.list.now next c.in-Some.index (shape (out-AstNode node)) Descendant is (indexed_under first nodes nodes c.in-Some.index node at c.index-nodes-index.is node_index c.args.list.now c.requires.indexed)
     (differ_under first nodes nodes c.in-Some.index node at c.index-nodes-index.is c.requires.differ) in
     let stands = (stands_further (λ ids. Unit {0}) first c.args.rest.now rest step Descendant nodes c.in-Some.index node c.in-Some-split_first.ensures.cases.0 c.in-Descendant.is c.in-Some.ensures.some c.index-nodes-index.is).0 c.requires.stands in (
       omega (arith, ap length c.in-Some-split_first.ensures.cases.0),

@@ -5,6 +5,8 @@ use Rattle.lol_css.specs.declared.selector.Combinator.{Combinator}
 use Rattle.lol_program.specs.IdsForNodes.{id_in, Fits}
 use Rattle.lol_program.specs.Views.{forest_of, steps_of, tests_of_compound}
 use Rattle.lol_program.specs.Growth.{Adds, AddsFirst}
+use Rattle.lol_program.specs.Indexed.{IsIndexed}
+use Rattle.std.specs.declared.hash.DefaultHasher.{DefaultHasher}
 use Rattle.lol_program.specs.declared.node_id.IdForNode.{IdForNode}
 use Rattle.lol_css.specs.declared.selector.Compound as css
 use Rattle.lol_program.proofs.Reserved.{fits_stay, all_stay}
@@ -18,7 +20,7 @@ invariant_of-self c =
     record {
       counted = omega (arith, c.add_path.ensures.count, c.args.self.now.counted);
       siblings = differ_after c.add_path.result (id_in c.args.id) (tests_of_compound (out-ComplexSelector c.args.item.now).first) (steps_of c.deref.result.now) (forest_of c.args.self.now.root.items) (forest_of c.add_path.new.nodes.items) c.add_path.ensures.added c.add_path.ensures.partly c.args.self.now.siblings;
-      indexed = c.add_path.ensures.indexed;
+      indexed = subst (λ (list : DefaultHasher). IsIndexed c.add_path.new.node_index list (forest_of c.add_path.new.nodes.items)) c.root_list.ensures c.add_path.ensures.indexed;
     }
 
 pub returns-clause-pairs : goal.returns-clause-pairs
