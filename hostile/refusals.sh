@@ -1,7 +1,7 @@
 #!/bin/sh
 # Refuses each request for memory in turn: of every scenario of crates/test_refusals, and of lol_match over two scripts of examples/.
 #
-# Run it at the top of the repository; it wants a C compiler (cc) and glibc, and the two programs built:
+# Run it at the top of the repository; it wants a C compiler (cc) and glibc, and the two programs, which `rt ci` leaves, or:
 #     (cd crates/test_refusals && rt run < /dev/null) && (cd crates/lol_match && rt run < /dev/null)
 #     sh hostile/refusals.sh
 #
@@ -11,11 +11,14 @@
 #   own: the scenario asked for the memory itself, before or after its calls.
 # It ends with 1 where an answer or a state was wrong.
 set -u
+refusals=crates/test_refusals/out/test_refusals
+match=crates/lol_match/out/lol_match
+for program in "$refusals" "$match"; do
+    [ -x "$program" ] || { echo "$program isn't built" >&2; exit 2; }
+done
 folder=$(mktemp -d)
 trap 'rm -r "$folder"' EXIT
 cc -shared -fPIC -O2 -o "$folder/refuse.so" hostile/refuse.c || exit 2
-refusals=crates/test_refusals/out/test_refusals
-match=crates/lol_match/out/lol_match
 wrong=0
 
 # run NUMBER PROGRAM INPUT: the program with that request refused. Sets status and count.

@@ -1,5 +1,5 @@
 -- Lines that are read one by one.
-use Rattle.std.specs.Prelude.{ℕ, ◌+◌, ◌≡◌, ◌==◌, Bool, true, false, List, [], ◌++◌, take, drop, position, Option, Some, None, if◌then◌else◌}
+use Rattle.std.specs.Prelude.{ℕ, ◌+◌, ◌*◌, ◌≤◌, ◌≡◌, ◌==◌, Bool, true, false, List, [], ◌++◌, take, drop, length, position, Option, Some, None, if◌then◌else◌}
 use Rattle.std.specs.Io.KnownBytes.{IsAtEnd}
 use Rattle.std.specs.List.{slice_split}
 use Rattle.lol_base.specs.CodePoints.{line_feed}
@@ -27,6 +27,15 @@ cut_at number bytes None = record { line = bytes; unread = []; number = number; 
 -- the first line of bytes, which is the last where no LF ends it
 abbrev pub next_line : ℕ → List ℕ → ReadLines
 next_line number bytes = cut_at number bytes (position is_line_feed bytes)
+
+-- how many lines there are at most after so many reads, each of which gives fewer than 2^64 bytes
+abbrev pub most_lines : ℕ → ℕ
+most_lines reads = 18446744073709551616 * reads
+
+-- Each read that gave bytes was counted: of so many reads the bytes come, fewer than 2^64 of each.
+abbrev pub AreCounted : List ℕ → List ℕ → List ℕ → List ℕ → Type 0
+AreCounted bytes later reads counted =
+    length later + 18446744073709551615 * length reads ≤ length bytes + 18446744073709551615 * length counted
 
 -- the lines that come after, where these bytes are read later
 abbrev pub later_lines : ReadLines → List ℕ → List (List ℕ)

@@ -3,7 +3,7 @@
 ghost use Rattle.std.specs.Prelude.{◌≡◌, ◌++◌, ◌∷◌, [], OnOk};
 ghost use Rattle.lol_script.specs.Output.{variant_name, combinator_sign, error_name, cause_name, bad_line};
 
-use crate::output::push_number;
+use crate::output::push_line_number;
 use lol_css::SelectorError;
 use std::alloc::AllocError;
 
@@ -20,7 +20,7 @@ pub enum Cause {
 /// The number of a bad line, from 1, and why it is bad.
 #[derive(Debug, Clone, Copy, PartialEq, Eq)]
 pub struct BadLine {
-    pub number: usize,
+    pub number: u128,
     pub cause: Cause,
 }
 
@@ -80,7 +80,7 @@ pub fn push_bad_line(text: &mut Vec<u8>, bad: BadLine) -> Result<(), AllocError>
     ensures { OnOk result (text.new.items ≡ text.old.items ++ bad_line bad) }
 {
     text.extend_from_slice(b"bad line ")?;
-    push_number(text, bad.number as u64)?;
+    push_line_number(text, bad.number)?;
     text.extend_from_slice(b": ")?;
     push_cause(text, bad.cause)?;
     text.push(b'\n')?;

@@ -29,7 +29,7 @@ pub struct Explained {
     explainer: Explainer,
 
     /// The number of each text's line.
-    lines: Vec<usize>,
+    lines: Vec<u128>,
 
     /// How many elements are around that of the last start tag.
     around: usize,

@@ -2,8 +2,9 @@
 
 ghost use Rattle.std.specs.Prelude.{◌≡◌, [], ◌∷◌, ◌++◌, Some, None, true, false, codes};
 ghost use Rattle.lol_base.specs.declared.namespace.Namespace.TheVariants.{Html, Svg};
+ghost use Rattle.lol_vm.specs.Refusals.{Limit, Counter};
 ghost use Rattle.lol_script.specs.Script.{line_at, number_up_to, SetLimit, TurnEsiOn, ShowTries, ShowReasons, MakeRows, Select, EndLine};
-ghost use Rattle.lol_script.specs.Scripts.{output};
+ghost use Rattle.lol_script.specs.Scripts.{output, shown_cause};
 ghost use Rattle.lol_script.specs.WorkedRows.{attribute, start_line, written};
 ghost use Rattle.lol_script.specs.declared.program.Status.TheVariants.{Good, BadLine, Refused};
 
@@ -98,6 +99,12 @@ pub fn worked_outputs()
         ≡ written (codes "start\t0/\tasked\n") Good }
     ensures esi { output (codes "esi\nselect\t0\t*\nstart\thtml\tesi:include\nstart\thtml\tp\nend\tesi:include\n")
         ≡ written (codes "start\t0/\nstart\t0\nend\t-\n") Good }
+{}
+
+/// Why a run is refused. A full counter takes more lines than a row has.
+pub fn worked_causes()
+    ensures limit { shown_cause Limit ≡ codes "refused limit" }
+    ensures counter { shown_cause Counter ≡ codes "refused counter" }
 {}
 
 /// Scripts with a bad line.

@@ -19,15 +19,21 @@ mod tags;
 
 pub use device::{Counted, RunFault};
 pub use output::push_reason;
-pub use program::{Status, run};
+pub use program::{Status, run, run_with_message};
 use std::io;
 use std::process::ExitCode;
 
 /// Runs the script of standard input and writes its output to standard output, as a program: the exit status is that of `exit_status`.
+///
+/// People are told on standard error of a selector that is refused.
 pub fn run_as_program(rt: HostRuntime) -> ExitCode {
     let mut reader = Counted::new(rt.reader());
     let mut writer = Counted::new(io::writer(&rt));
-    let outcome = run(rt.alloc(), &mut reader, &mut writer);
+    let mut message = String::new(rt.alloc());
+    let outcome = run_with_message(rt.alloc(), &mut reader, &mut writer, &mut message);
+    if !message.is_empty() {
+        let _ = eprintln!(rt; "lol_match: {message}");
+    }
     let _ = reader.into_inner();
     let _ = writer.into_inner();
     ExitCode::from(exit_status(&rt, outcome))

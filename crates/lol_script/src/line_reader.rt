@@ -1,10 +1,11 @@
 //! The lines of a reader, one by one.
 
-ghost use Rattle.std.specs.Prelude.{◌≡◌, ◌≢◌, ◌<◌, ◌≤◌, ◌+◌, ◌++◌, List, ℕ, None, false, IfOk, IfErr, OnOk, drop, length, position};
+ghost use Rattle.std.specs.Prelude.{◌≡◌, ◌≢◌, ◌<◌, ◌≤◌, ◌+◌, ◌++◌, List, ℕ, None, Some, false, IfOk, IfErr, OnOk, OnErr, drop, length, position};
 ghost use Rattle.std.specs.Io.KnownBytes.{IsAtEnd};
 ghost use Rattle.std.specs.List.{list_any};
+ghost use Rattle.std.specs.Vec.{vec_capacity};
 ghost use Rattle.lol_script.specs.Devices.{IsReadFault, Reads, device_of, failures_of};
-ghost use Rattle.lol_script.specs.ReadLines.{GoesOn, is_line_feed, next_line, no_lines};
+ghost use Rattle.lol_script.specs.ReadLines.{AreCounted, GoesOn, is_line_feed, next_line, no_lines};
 
 use crate::device::{Counted, RunFault};
 use memchr::memchr;
@@ -15,7 +16,8 @@ use std::marker::Model;
 /// How many bytes are read at a time.
 const CHUNK_LEN: usize = 65536;
 
-/// The lines of a reader, one by one. LF ends a line, but for the last. It takes the memory of 128 KB, or of 64 KB and the longest line.
+/// The lines of a reader, one by one. LF ends a line, but for the last. It takes the memory of 128 KB, or of 64 KB and the longest line,
+/// and a byte for each read.
 #[derive(Drop)]
 pub struct LineReader {
     bytes: Vec<u8>,
@@ -23,19 +25,22 @@ pub struct LineReader {
     /// Where a read puts its bytes. It has its length with the first read.
     chunk: Vec<u8>,
 
+    /// A byte for each read. A reader that never ends is out of memory once this can't grow, and until then its lines can be counted.
+    reads: Vec<u8>,
+
     // The line.
     start: usize,
     end: usize,
 
     /// Where the next line starts, as far as it was read.
     next: usize,
-    number: usize,
+    number: u128,
     is_last: bool,
 }
 
 impl Model for LineReader {
-    ghost use Rattle.std.specs.Prelude.{◌≤◌, drop, length, slice_range};
-    ghost use Rattle.lol_script.specs.ReadLines.{ReadLines};
+    ghost use Rattle.std.specs.Prelude.{◌≤◌, ◌+◌, drop, length, slice_range};
+    ghost use Rattle.lol_script.specs.ReadLines.{ReadLines, most_lines};
 
     ghost Value = { ReadLines };
 
@@ -46,7 +51,8 @@ impl Model for LineReader {
       is_last = r.is_last;
     } };
 
-    ghost invariant = { λ r. (r.start ≤ r.end) × (r.end ≤ length r.bytes.items) × (r.next ≤ length r.bytes.items) };
+    ghost invariant = { λ r. (r.start ≤ r.end) × (r.end ≤ length r.bytes.items) × (r.next ≤ length r.bytes.items)
+        × (r.number + length r.bytes.items ≤ most_lines (length r.reads.items) + r.next) };
 }
 
 impl LineReader {
@@ -57,6 +63,7 @@ impl LineReader {
         LineReader {
             bytes: Vec::new(alloc),
             chunk: Vec::new(alloc),
+            reads: Vec::new(alloc),
             start: 0,
             end: 0,
             next: 0,
@@ -73,7 +80,7 @@ impl LineReader {
     }
 
     /// The line's number, from 1.
-    pub fn number(&self) -> usize
+    pub fn number(&self) -> u128
         ensures { result ≡ self.now.number }
     {
         self.number
@@ -89,7 +96,7 @@ impl LineReader {
     /// Goes to the next line, after which comes another if LF ends it. After the last line comes an empty one, which is the last again.
     ///
     /// # Errors
-    /// `Read` where a read failed, an interrupted one too; `Memory` where memory was refused, or the lines can't be counted any more.
+    /// `Read` where a read failed, an interrupted one too; `Memory` where memory was refused.
     #[inline(always)]
     pub fn advance<R: Read>(&mut self, reader: &mut Counted<R>) -> Result<(), RunFault>
         requires { failures_of reader.old < u64.MAX }
@@ -98,7 +105,10 @@ impl LineReader {
         ensures unchanged { OnOk result (failures_of reader.new ≡ failures_of reader.old) }
     {
         match line_feed_offset(&self.bytes[self.next..]) {
-            Some(offset) => self.go_to(Some(offset)),
+            Some(offset) => {
+                self.go_past(offset);
+                Ok(())
+            }
             None => self.read_on(reader),
         }
     }
@@ -117,35 +127,44 @@ impl LineReader {
         self.end = 0;
         self.next = 0;
         make_chunk(&mut self.chunk)?;
-        let offset = read_to_line_feed(&mut self.bytes, &mut self.chunk, reader)?;
-        self.go_to(offset)
-    }
-
-    /// Goes to the line that ends where the first LF stands in what comes after the line, or to the last, and counts it.
-    #[inline(always)]
-    fn go_to(&mut self, offset: Option<usize>) -> Result<(), RunFault>
-        requires { offset ≡ position is_line_feed self.old.unread }
-        ensures next { OnOk result (self.new ≡ next_line (self.old.number + 1) self.old.unread) }
-        ensures fault { IfErr result (λ fault. fault ≡ RunFault.Memory) }
-    {
-        let Some(number) = self.number.checked_add(1) else {
-            return Err(RunFault::Memory);
-        };
-        self.number = number;
-        self.start = self.next;
-        match offset {
-            Some(offset) => {
-                self.end = self.start + offset;
-                self.next = self.end + 1;
-                self.is_last = false;
-            }
+        match read_to_line_feed(&mut self.bytes, &mut self.chunk, &mut self.reads, reader)? {
+            Some(offset) => self.go_past(offset),
             None => {
+                self.number += 1;
                 self.end = self.bytes.len();
                 self.next = self.end;
                 self.is_last = true;
             }
         }
         Ok(())
+    }
+
+    /// Goes to the line that ends where the first LF stands in what comes after the line, and counts it.
+    #[inline(always)]
+    fn go_past(&mut self, offset: usize)
+        requires { Some offset ≡ position is_line_feed self.old.unread }
+        ensures { self.new ≡ next_line (self.old.number + 1) self.old.unread }
+    {
+        self.number += 1;
+        self.start = self.next;
+        self.end = self.start + offset;
+        self.next = self.end + 1;
+        self.is_last = false;
+    }
+
+    /// Reads to the end, and forgets what is read.
+    ///
+    /// # Errors
+    /// `Read` where a read failed; `Memory` where memory was refused.
+    pub fn read_to_end<R: Read>(&mut self, reader: &mut Counted<R>) -> Result<(), RunFault>
+        requires { failures_of reader.old < u64.MAX }
+        ensures end { OnOk result ((more : List ℕ)
+            × Reads R.remaining reader.old reader.new more × IsAtEnd (R.remaining (device_of reader.new))) }
+        ensures fault { IfErr result (λ fault. IsReadFault reader.old reader.new fault) }
+        ensures unchanged { OnOk result (failures_of reader.new ≡ failures_of reader.old) }
+        ensures kept { self.new ≡ self.old }
+    {
+        read_rest(&mut self.chunk, &mut self.reads, reader)
     }
 }
 
@@ -181,11 +200,25 @@ fn make_chunk(chunk: &mut Vec<u8>) -> Result<(), RunFault>
     Ok(())
 }
 
+/// Counts a read, before it is made.
+fn count_read(reads: &mut Vec<u8>) -> Result<(), RunFault>
+    ensures counted { OnOk result (length reads.new.items ≡ length reads.old.items + 1) }
+    ensures left { OnErr result (reads.new.items ≡ reads.old.items) }
+    ensures full { OnErr result (vec_capacity reads.old ≤ length reads.old.items) }
+    ensures fault { IfErr result (λ fault. fault ≡ RunFault.Memory) }
+{
+    match reads.push(0) {
+        Ok(()) => Ok(()),
+        Err(_) => Err(RunFault::Memory),
+    }
+}
+
 /// Appends what is read, up to the first LF or the end, and returns the offset of that LF. Where one comes, more may be appended after it.
 #[inline(never)]
 fn read_to_line_feed<R: Read>(
     bytes: &mut Vec<u8>,
     chunk: &mut [u8],
+    reads: &mut Vec<u8>,
     reader: &mut Counted<R>,
 ) -> Result<Option<usize>, RunFault>
     requires failures { failures_of reader.old < u64.MAX }
@@ -194,6 +227,8 @@ fn read_to_line_feed<R: Read>(
     ensures read { OnOk result ((more : List ℕ)
         × Reads R.remaining reader.old reader.new more × (bytes.new.items ≡ bytes.old.items ++ more)) }
     ensures kept { (more : List ℕ) × (bytes.new.items ≡ bytes.old.items ++ more) }
+    ensures counted { AreCounted bytes.old.items bytes.new.items reads.old.items reads.new.items }
+    ensures grows { OnOk result (length reads.old.items < length reads.new.items) }
     ensures offset { IfOk result (λ offset. offset ≡ position is_line_feed bytes.new.items) }
     ensures end { IfOk result (λ offset. offset ≡ None → IsAtEnd (R.remaining (device_of reader.new))) }
     ensures fault { IfErr result (λ fault. IsReadFault reader.old reader.new fault) }
@@ -201,6 +236,7 @@ fn read_to_line_feed<R: Read>(
 {
     loop {
         let scanned = bytes.len();
+        count_read(reads)?;
         let count = reader.read(chunk)?;
         if count == 0 {
             return Ok(None);
@@ -215,28 +251,25 @@ fn read_to_line_feed<R: Read>(
 }
 
 /// Reads to the end, and forgets what is read.
-///
-/// # Errors
-/// `Read` where a read failed; `Memory` where the bytes can't be counted any more, so that a reader that never ends is answered.
-// Inlined, its 64 KB would stand on the stack below all that is read before.
 #[inline(never)]
-pub fn read_to_end<R: Read>(reader: &mut Counted<R>) -> Result<(), RunFault>
+fn read_rest<R: Read>(
+    chunk: &mut Vec<u8>,
+    reads: &mut Vec<u8>,
+    reader: &mut Counted<R>,
+) -> Result<(), RunFault>
     requires { failures_of reader.old < u64.MAX }
     ensures end { OnOk result ((more : List ℕ)
         × Reads R.remaining reader.old reader.new more × IsAtEnd (R.remaining (device_of reader.new))) }
+    ensures grows { length reads.old.items ≤ length reads.new.items }
     ensures fault { IfErr result (λ fault. IsReadFault reader.old reader.new fault) }
     ensures unchanged { OnOk result (failures_of reader.new ≡ failures_of reader.old) }
 {
-    let mut chunk = [0u8; 65536];
-    let mut bytes: u64 = 0;
+    make_chunk(chunk)?;
+    let chunk = chunk.as_mut_slice();
     loop {
-        let count = reader.read(&mut chunk)?;
-        if count == 0 {
+        count_read(reads)?;
+        if reader.read(chunk)? == 0 {
             return Ok(());
         }
-        let Some(more) = bytes.checked_add(count as u64) else {
-            return Err(RunFault::Memory);
-        };
-        bytes = more;
     }
 }

@@ -212,6 +212,17 @@ fn push_digits(text: &mut Vec<u8>, number: u64) -> Result<(), AllocError>
     text.extend_from_slice(buffer.format(number).as_bytes())
 }
 
+/// Adds the number of a line.
+pub fn push_line_number(text: &mut Vec<u8>, number: u128) -> Result<(), AllocError>
+    ensures { OnOk result (text.new.items ≡ text.old.items ++ decimal number) }
+{
+    if number <= u64::MAX as u128 {
+        return push_number(text, number as u64);
+    }
+    let mut buffer = Buffer::new();
+    text.extend_from_slice(buffer.format(number).as_bytes())
+}
+
 /// Adds the field of the tries.
 fn push_tries(text: &mut Vec<u8>, tries: Tries) -> Result<(), AllocError>
     ensures { OnOk result (text.new.items
@@ -255,14 +266,14 @@ pub fn push_started(
 }
 
 /// Adds the line of a reason, whose text is that of the `select` line of this number.
-pub fn push_reason(text: &mut Vec<u8>, line: usize, reason: &Reason) -> Result<(), AllocError>
+pub fn push_reason(text: &mut Vec<u8>, line: u128, reason: &Reason) -> Result<(), AllocError>
     ensures { OnOk result (text.new.items
         ≡ text.old.items ++ (shown_reason line (reason_shown reason.now) ++ line_feed ∷ [])) }
 {
     text.extend_from_slice(b"why\t")?;
     push_number(text, u64::from(reason.item.id))?;
     text.push(b'\t')?;
-    push_number(text, line as u64)?;
+    push_line_number(text, line)?;
     text.push(b'\t')?;
     push_number(text, reason.item.item as u64)?;
     text.push(b'\t')?;

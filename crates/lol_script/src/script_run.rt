@@ -97,7 +97,7 @@ impl ScriptRun {
     }
 
     /// Takes a line; the first is that of a tag.
-    pub fn take_line(&mut self, number: usize, line: &[u8]) -> Result<(), Stop>
+    pub fn take_line(&mut self, number: u128, line: &[u8]) -> Result<(), Stop>
         ensures taken { OnOk result (ForAnswers self.old (λ s. IsTagIfFirst line.now s → (t : scripts.Script)
             × Answers self.new t × (with_bytes number s line.now ≡ Ok t) × HasTags t)) }
         ensures stop { IfErr result (λ stop. ForAnswers self.old (λ s. IsTagIfFirst line.now s

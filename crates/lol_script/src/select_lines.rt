@@ -15,7 +15,7 @@ use std::alloc::{AllocError, Global};
 /// The number of a `select` line, its id, and how many bytes its text has.
 #[derive(Clone, Copy)]
 struct KeptLine {
-    number: usize,
+    number: u128,
     id: u32,
     len: usize,
 }
@@ -39,7 +39,7 @@ impl SelectLines {
     }
 
     /// Adds a line.
-    pub fn push(&mut self, number: usize, id: u32, text: &str) -> Result<(), AllocError>
+    pub fn push(&mut self, number: u128, id: u32, text: &str) -> Result<(), AllocError>
         ensures { OnOk result ((kept : List lines.KeptLine) → Keeps self.old kept
             → Keeps self.new (kept ++ record { number = number; id = id; text = text.now } ∷ [])) }
     {
@@ -53,7 +53,7 @@ impl SelectLines {
     }
 
     /// The numbers of the lines.
-    pub fn numbers(&self, alloc: Global) -> Result<Vec<usize>, AllocError>
+    pub fn numbers(&self, alloc: Global) -> Result<Vec<u128>, AllocError>
         ensures { IfOk result (λ numbers. numbers.items ≡ map (λ line. line.number) self.now.lines.items) }
     {
         let mut numbers = Vec::new(alloc);

@@ -74,7 +74,7 @@ impl Settings {
     fn take_line(
         &mut self,
         alloc: Global,
-        number: usize,
+        number: u128,
         line: &[u8],
         outlines: &mut AttributeBuffer,
     ) -> Result<bool, Stop>
@@ -97,7 +97,7 @@ impl Settings {
         }
     }
 
-    fn take(&mut self, alloc: Global, number: usize, setting: Setting<'_>) -> Result<(), Stop>
+    fn take(&mut self, alloc: Global, number: u128, setting: Setting<'_>) -> Result<(), Stop>
         ensures taken { OnOk result (ForReading self.old (λ s.
             ReadsScript self.new (with_line number s (set_by setting.entry)))) }
         ensures stop { IfErr result (λ stop. ForReading self.old (λ s.
@@ -139,7 +139,7 @@ pub fn with_rows_if(ast: Ast, has_rows: bool) -> Ast
 }
 
 /// A line that has none of the forms, or stands where it can't.
-pub fn malformed(number: usize) -> Stop
+pub fn malformed(number: u128) -> Stop
     ensures { result ≡ Stop.Bad (record { number = number; cause = Cause.Form }) }
 {
     Stop::Bad(BadLine {
@@ -152,7 +152,7 @@ pub fn malformed(number: usize) -> Stop
 fn take_selector(
     alloc: Global,
     ast: &mut Ast,
-    number: usize,
+    number: u128,
     id: u32,
     text: &str,
 ) -> Result<(), Stop>

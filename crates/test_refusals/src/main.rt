@@ -6,6 +6,7 @@
 mod attributes;
 mod compiling;
 mod element;
+mod endless;
 mod explained;
 mod explaining;
 mod lists;
@@ -30,7 +31,7 @@ const NAMES: &str = "
     stack_add_child map_add_child add_execution_branch name_into_owned name_try_clone
     item_into_owned context_into_owned short_names owned_names match_events_by_type
     run_of_a_bad_line run_past_the_limit attributes_push matcher explained run_explained
-    explaining_matcher match_events_with_rows run_with_rows
+    explaining_matcher match_events_with_rows run_with_rows run_without_end
 ";
 
 fn main(rt: HostRuntime) -> ExitCode {
@@ -128,6 +129,7 @@ fn made(alloc: Global, name: &str) -> Result<bool, Stop> {
         "run_explained" => runs::run_explained(alloc),
         "match_events_with_rows" => runs::with_rows(alloc),
         "run_with_rows" => runs::run_with_rows(alloc),
+        "run_without_end" => endless::run_without_end(alloc),
         "name_into_owned" => names::name_into_owned(alloc),
         "item_into_owned" => names::item_into_owned(alloc),
         "context_into_owned" => names::context_into_owned(alloc),

@@ -50,6 +50,27 @@ impl Read for Source<'_> {
     }
 }
 
+/// Gives four bytes a call, and fails at one call alone.
+#[derive(Drop)]
+struct Stumbling<'s> {
+    rest: &'s [u8],
+    calls_before: u32,
+}
+
+impl Read for Stumbling<'_> {
+    fn read(&mut self, buffer: &mut [u8]) -> io::Result<usize> {
+        let Some(calls_before) = self.calls_before.checked_sub(1) else {
+            self.calls_before = u32::MAX;
+            return Err(io::Error::from(ErrorKind::Interrupted));
+        };
+        self.calls_before = calls_before;
+        let count = self.rest.len().min(buffer.len()).min(4);
+        buffer[..count].copy_from_slice(&self.rest[..count]);
+        self.rest = &self.rest[count..];
+        Ok(count)
+    }
+}
+
 /// Takes three bytes a call, and fails once.
 #[derive(Drop)]
 struct Sink {
@@ -145,6 +166,29 @@ fn each_read_fails_in_turn(rt: HostRuntime) {
     assert!(rt; SCRIPT.len() == 87 && OUTPUT.len() == 34);
     expect_each_read(&rt, rt.alloc(), Failure::Broken);
     expect_each_read(&rt, rt.alloc(), Failure::Interrupted);
+}
+
+/// Whether a run of which one read fails, after so many others, ends with that: those that would come after it went well.
+fn is_told_at_once(alloc: Global, reads: u32) -> bool {
+    let mut reader = Counted::new(Stumbling {
+        rest: SCRIPT,
+        calls_before: reads,
+    });
+    let mut writer = Counted::new(Vec::new(alloc));
+    let outcome = run(alloc, &mut reader, &mut writer);
+    let failures = (reader.failures(), writer.failures());
+    let _ = reader.into_inner();
+    let written: Vec<u8> = writer.into_inner();
+    outcome == Err(RunFault::Read) && failures == (1, 0) && written.is_empty()
+}
+
+/// A read that failed isn't tried again, an interrupted one neither.
+#[test]
+fn a_failed_read_is_told_at_once(rt: HostRuntime) {
+    for reads in 0..READS {
+        let is_told = is_told_at_once(rt.alloc(), reads);
+        assert!(rt; is_told, "at {reads}");
+    }
 }
 
 fn expect_writes_fail(rt: &impl Abort, alloc: Global, failure: Failure) {

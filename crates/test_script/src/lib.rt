@@ -9,6 +9,8 @@ mod devices;
 #[cfg(test)]
 mod edges;
 #[cfg(test)]
+mod endless;
+#[cfg(test)]
 mod explained;
 #[cfg(test)]
 mod replayed;

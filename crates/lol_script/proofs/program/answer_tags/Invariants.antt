@@ -16,4 +16,4 @@ invariant-loop-lines g l =
     }
 
 abbrev pub decreases-loop-lines : goal.decreases-loop-lines
-decreases-loop-lines g l = 2 ^ 64 - l.lines.number
+decreases-loop-lines g l = 2 ^ 128 - l.lines.number

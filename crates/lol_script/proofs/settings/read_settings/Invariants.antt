@@ -14,4 +14,4 @@ invariant-loop-fault g l =
     }
 
 abbrev pub decreases-loop-fault : goal.decreases-loop-fault
-decreases-loop-fault g l = 2 ^ 64 - l.lines.number
+decreases-loop-fault g l = 2 ^ 128 - l.lines.number

@@ -1,5 +1,5 @@
 use Rattle.std.proofs.Common.{ap, sym, ◌∙◌}
-use Rattle.lol_script.proofs.program.run.Goals as goal
+use Rattle.lol_script.proofs.program.run_with_message.Goals as goal
 
 pub returns-in_err-write_text-clause-beginning : goal.returns-in_err-write_text-clause-beginning
 returns-in_err-write_text-clause-beginning g c = λ is.
