@@ -65,8 +65,8 @@ def time_of(program, text, runs):
 
 def lol_match(program, page, selectors, runs):
     """The page's tags by examples/tags.py; then a run with the page once, and what each further page takes."""
-    parse, tags = time_of([sys.executable, TOP / "examples" / "tags.py"], pathlib.Path(page).read_bytes(), runs)
-    lines = tags.decode().split("\n")[:-1]
+    parse, tags = time_of([sys.executable, TOP / "examples" / "tags.py", "*"], pathlib.Path(page).read_bytes(), runs)
+    lines = tags.decode().split("\n")[1:-1]
     once, written = time_of(program, script(selectors, lines), runs)
     often, _ = time_of(program, script(selectors, lines * PAGES), runs)
     found = sum(len(line.split(b"\t")[1].split(b",")) for line in written.split(b"\n")

@@ -1,9 +1,11 @@
 #!/usr/bin/env bash
-# Compares the examples with what they are made from: page.txt with the tags of page.html, filters.txt with what filters.py writes.
+# Passes the tests of what reads pages, and compares the examples with what they are made from: page.txt with the tags of page.html, filters.txt
+# with what filters.py writes.
 # lol_match, as each compiler built it, has to answer each script as the file beside it says: those of a page, of a line that can't be read
 # and of a limit that is exceeded, and filters.txt, whose answer is the model's. `rt ci` builds both; in CI they have to be there.
 set -euo pipefail
 cd "$(dirname "${BASH_SOURCE[0]}")"
+python3 ../bindings/python/page_tests.py
 mapfile -t selectors < <(sed -n 's/^select\t[0-9]*\t//p' page.txt)
 python3 tags.py "${selectors[@]}" < page.html | cmp - page.txt
 python3 filters.py | cmp - filters.txt

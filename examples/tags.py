@@ -8,33 +8,28 @@ A TAB or a line's end in a name or value becomes a space, which a script can hol
 
 import re
 import sys
-from html.parser import HTMLParser
+from pathlib import Path
 
-VOID = "area base basefont bgsound br col embed hr img input keygen link meta param source track wbr".split()
-ROOTS = {"svg": "svg", "math": "mathml"}
-HTML_INSIDE = {"svg": "foreignobject desc title".split(), "mathml": "mi mo mn ms mtext".split()}
+sys.path.insert(0, str(Path(__file__).resolve().parent.parent / "bindings" / "python"))
+from page_tags import PageTags  # noqa: E402
 
 
-class Tags(HTMLParser):
-    open_elements = []  # of each its name, and the namespace of what stands in it
+class Script(PageTags):
+    def start(self, name, attributes, namespace, self_closing):
+        # A script cuts an attribute at its first `=`, so it can't hold one whose name begins with it.
+        held = [(key, value) for key, value in attributes.items() if not key.startswith("=")]
+        written = [key if value is None else f"{key}={value}" for key, value in held]
+        print("start", namespace + "/" * self_closing, name, *(re.sub(r"[\t\r\n]", " ", word) for word in written), sep="\t")
 
-    def handle_starttag(self, name, attributes, mark=""):
-        inside = self.open_elements[-1][1] if self.open_elements else "html"
-        namespace = ROOTS.get(name, inside)
-        written = [key if value is None else f"{key}={value}" for key, value in attributes]
-        print("start", namespace + mark, name, *(re.sub(r"[\t\r\n]", " ", word) for word in written), sep="\t")
-        if not (name in VOID if namespace == "html" else mark):
-            self.open_elements.append((name, "html" if name in HTML_INSIDE.get(namespace, ()) else namespace))
-
-    def handle_startendtag(self, name, attributes):
-        self.handle_starttag(name, attributes, "/")
-
-    def handle_endtag(self, name):
+    def end(self, name):
         print("end", name, sep="\t")
-        places = [place for place, (opened, _) in enumerate(self.open_elements) if opened == name]
-        del self.open_elements[places[-1] if places else len(self.open_elements) :]
 
 
+if len(sys.argv) < 2:
+    print("usage: tags.py SELECTOR.. < page.html", file=sys.stderr)
+    sys.exit(2)
+if sys.stdin.isatty():
+    print("tags.py waits for a page on standard input", file=sys.stderr)
 for number, selector in enumerate(sys.argv[1:]):
     print("select", number, selector, sep="\t")
-Tags().feed(sys.stdin.read())
+Script().read(sys.stdin.buffer.read())

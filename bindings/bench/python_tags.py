@@ -9,7 +9,6 @@ page is examples/page.html a hundred times if none is named. Best of five runs.
 
 import sys
 import time
-from html.parser import HTMLParser
 from pathlib import Path
 from typing import Callable
 
@@ -19,6 +18,7 @@ from bs4 import BeautifulSoup
 TOP = Path(__file__).resolve().parents[2]
 sys.path.insert(0, str(TOP / "bindings" / "python"))
 
+from page_tags import PageTags  # noqa: E402
 from zugrenja import Matcher, select  # noqa: E402
 
 SELECTORS = (
@@ -27,20 +27,19 @@ SELECTORS = (
 )
 
 
-class Reading(HTMLParser):
-    """The tags of a page, in their order: name and attributes of a start tag, the name alone of an end tag."""
+class Reading(PageTags):
+    """The tags of a page, in their order: what `Matcher.start` takes, and the name alone of an end tag."""
 
     def __init__(self, page: str) -> None:
         super().__init__()
         self.tags: list[tuple] = []
-        self.feed(page)
-        self.close()
+        self.read(page)
 
-    def handle_starttag(self, tag: str, attrs: list) -> None:
-        self.tags.append((tag, attrs))
+    def start(self, *tag: object) -> None:
+        self.tags.append(tag)
 
-    def handle_endtag(self, tag: str) -> None:
-        self.tags.append((tag,))
+    def end(self, name: str) -> None:
+        self.tags.append((name,))
 
 
 def tell(tags: list[tuple]) -> int:
@@ -48,7 +47,7 @@ def tell(tags: list[tuple]) -> int:
     with Matcher(SELECTORS) as matcher:
         count = 0
         for tag in tags:
-            if len(tag) == 2:
+            if len(tag) > 1:
                 count += len(matcher.start(*tag))
             else:
                 matcher.end(*tag)
@@ -72,7 +71,7 @@ def best(call: Callable[[], int]) -> tuple[float, int]:
 def main() -> None:
     page = Path(sys.argv[1]).read_text() if len(sys.argv) > 1 else (TOP / "examples/page.html").read_text() * 100
     tags, soup = Reading(page).tags, BeautifulSoup(page, "html.parser")
-    starts = sum(len(tag) == 2 for tag in tags)
+    starts = sum(len(tag) > 1 for tag in tags)
     print(f"{len(page)} characters, {starts} start tags, {len(tags) - starts} end tags, {len(SELECTORS)} selectors")
     for words, call in {
         "zugrenja, from text": lambda: sum(len(match.selectors) for match in select(page, SELECTORS)),

@@ -202,6 +202,12 @@ uint32_t zugrenja_free(zugrenja_matcher *matcher);
    It is English, and no 0 ends it. It needs no handle and no memory. */
 size_t zugrenja_text(uint32_t status, uint32_t cause, uint32_t combinator, uint8_t *out, size_t out_len);
 
+/* Writes the beginning that fits of what people are told of a text that isn't accepted, and returns the length of all of it: the cause, the
+   text's line, and under it a caret at the place, beside which stands what is refused and, for some causes, what to write in its place.
+   `refusal` is what zugrenja_add wrote for the text. The length is 0 where the text isn't UTF-8 and where no text is refused for such a
+   cause. It is English, and no 0 ends it. It needs no handle and no memory. */
+size_t zugrenja_message(const uint8_t *text, size_t text_len, const zugrenja_refusal *refusal, uint8_t *out, size_t out_len);
+
 /* Runs a script (docs/SCRIPT.md), and writes the beginning of its output that fits into `out`, whole if it fits. Bytes after the output
    stay as they were. `written` is the length of the whole output: if it is greater than `out_len` the rest is lost, and a call with so many
    bytes gets it. It needs no handle, and no call depends on another.

@@ -214,7 +214,7 @@ static void tells_each_cause_and_place() {
         {".foo()", cause::invalid_class_name, 0, 1},
         {"svg|img", cause::namespaced_selector, 0, 3},
         {"a:hover", cause::unsupported_pseudo_class_or_element, 0, 2},
-        {"img, a + img", cause::unsupported_combinator, 1, 5},
+        {"img, a + img", cause::unsupported_combinator, 1, 7},
     };
     matcher matcher;
     zugrenja::refusal why;
@@ -280,8 +280,10 @@ static void throws_what_is_refused() {
         matcher.add(0, "img, a + img");
         WANT(false);
     } catch (const zugrenja::selector_error &error) {
-        WANT(error.cause() == cause::unsupported_combinator && error.offset() == 5 && error.refusal().item == 1);
-        WANT(error.what() == std::string("Unsupported combinator `+` in selector. (item 1, byte 5)"));
+        WANT(error.cause() == cause::unsupported_combinator && error.offset() == 7 && error.refusal().item == 1);
+        WANT(error.what() == std::string("Unsupported combinator `+` in selector. (item 1, byte 7)"));
+        const std::string told = zugrenja::message("img, a + img", error.refusal());
+        WANT(told.rfind("Unsupported combinator `+` in selector.\n    img, a + img\n           ^ `+`", 0) == 0);
     }
     matcher.add(0, "b[x]");
     matcher.with_rows();

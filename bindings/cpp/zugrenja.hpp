@@ -93,6 +93,15 @@ inline std::string message(const refusal &why) {
     return message(status::not_accepted, why) + " (item " + std::to_string(why.item) + ", byte " + std::to_string(why.offset) + ")";
 }
 
+// What people are told of a text that isn't accepted: why, and under the text's line a caret at the place.
+inline std::string message(std::string_view text, const refusal &why) {
+    const zugrenja_refusal c{std::uint32_t(why.cause), why.combinator, why.item, why.offset};
+    const auto *bytes = reinterpret_cast<const std::uint8_t *>(text.data());
+    std::string told(zugrenja_message(bytes, text.size(), &c, nullptr, 0), '\0');
+    zugrenja_message(bytes, text.size(), &c, reinterpret_cast<std::uint8_t *>(told.data()), told.size());
+    return told;
+}
+
 #if defined(__cpp_exceptions)
 // A call was refused. Where memory was refused std::bad_alloc is thrown instead.
 class error : public std::runtime_error {

@@ -4,7 +4,7 @@
     ZUGRENJA_LIBRARY=bindings/out/libzugrenja.so /usr/bin/python3 bindings/peers/decisions.py
 
 The pages, the selectors, the engines and the reasons for differences are those of diff/peers.py. Each page is written as a text, in which
-line N has the start tag of element N; each engine is given the same elements, all of them in the HTML namespace, as `select` takes them.
+line N has the start tag of element N; each engine is given the same elements, all of them in the HTML namespace.
 It needs what diff/README.md names for pages and for these two engines.
 """
 
@@ -27,12 +27,16 @@ from zugrenja import select
 
 
 def in_html(element: Element) -> Element:
-    """The element as html.parser reads it: in HTML, its names in lower case, without attributes of other namespaces."""
+    """The element in HTML, as `select` reads it: its names in lower case, without attributes of other namespaces. One of SVG or MathML has
+    another name, and so has `noscript`, in which `select` reads text."""
+    own = element.name.lower()
+    if element.namespace != HTML or own == "noscript":
+        own = f"x-{own}"
     attributes = {}
     for prefix, name, value in element.attributes:
         if prefix is None:
             attributes.setdefault(name.lower(), value)
-    return Element(element.parent, HTML, element.name.lower(), [(None, *one) for one in attributes.items()])
+    return Element(element.parent, HTML, own, [(None, *one) for one in attributes.items()])
 
 
 def pages(options: argparse.Namespace) -> Iterator[Page]:

@@ -193,7 +193,8 @@ class Typed:
         try:
             return function(*calls)
         except SelectorError as refused:
-            return "NOT_UTF8" if refused.cause == "not UTF-8" else f"NOT_ACCEPTED {refused.cause} {refused.item} {refused.offset}"
+            byte = len(refused.text[: refused.offset].encode())
+            return "NOT_UTF8" if refused.cause == "not UTF-8" else f"NOT_ACCEPTED {refused.cause} {refused.item} {byte}"
         except TagError as refused:
             return STATUSES[refused.status]
 

@@ -129,8 +129,13 @@ class Tags(unittest.TestCase):
         with Matcher() as matcher:
             with self.assertRaises(SelectorError) as raised:
                 matcher.add(2**32 - 1, "img, a + img")
-            self.assertEqual((raised.exception.cause, raised.exception.item, raised.exception.offset), ("UnsupportedCombinator(+)", 1, 5))
-            self.assertEqual(str(raised.exception), "Unsupported combinator `+` in selector. (item 1, byte 5) in 'img, a + img'")
+            self.assertEqual((raised.exception.cause, raised.exception.item, raised.exception.offset), ("UnsupportedCombinator(+)", 1, 7))
+            lines = str(raised.exception).split("\n")
+            self.assertEqual(lines[:2], ["Unsupported combinator `+` in selector.", "    img, a + img"])
+            self.assertTrue(lines[2].startswith("           ^ `+` steps to a sibling"))
+            with self.assertRaises(SelectorError) as raised:
+                matcher.add(0, "ü > ö + a")
+            self.assertEqual(raised.exception.text[raised.exception.offset :], "+ a")
             for text in (b"\xff", "\udcff"):
                 with self.assertRaises(SelectorError):
                     matcher.add(0, text)
@@ -250,6 +255,42 @@ class Select(unittest.TestCase):
             ],
         )
 
+    def found(self, page: str | bytes, *selectors: str) -> list[tuple]:
+        """Each match's line:column and selectors."""
+        return [(f"{match.line}:{match.column}", *match.selectors) for match in select(page, selectors)]
+
+    def test_reads_pages_as_html_is_read(self) -> None:
+        self.assertEqual(self.found("<div/><p>x</p>", "div p"), [("1:7", 0)])
+        self.assertEqual(self.found("<textarea><p></textarea><p><script/><p></script>", "p, textarea p"), [("1:25", 0)])
+        self.assertEqual(self.found("<svg><g/><path/><a/></svg><p>", "g *, path *", "svg > *", "svg p"), [("1:6", 1), ("1:10", 1), ("1:17", 1)])
+        self.assertEqual(self.found("<div><svg><g><p></p></g></svg></div><p>", "svg p, g p", "div > p", "div p"), [("1:14", 1, 2)])
+
+    def test_tells_namespaces(self) -> None:
+        for page, is_in_html in {
+            "<a type=B>": True,
+            "<svg><a type=B></a></svg>": False,
+            "<svg><desc><a type=B></a></desc></svg>": True,
+            "<math><a type=B></a></math>": False,
+            "<math><mi><a type=B></a></mi></math>": True,
+        }.items():
+            with self.subTest(page=page):
+                self.assertEqual(len(select(page, ["a[type=b]"])), is_in_html)
+
+    def test_first_attribute_of_a_name(self) -> None:
+        (match,) = select('<a href="b" HREF="c">', ["a[href=b]", "a[href=c]"])
+        self.assertEqual((match.selectors, match.attributes), ((0,), {"href": "b"}))
+
+    def test_one_selector(self) -> None:
+        self.assertEqual(self.found(self.PAGE, "div > p"), [("2:1", 0)])
+        self.assertEqual(select(self.PAGE, "div > p"), select(self.PAGE, ["div > p"]))
+        with Matcher("div > p, em") as matcher:
+            self.assertEqual(matcher.start("em"), (0,))
+
+    def test_bytes(self) -> None:
+        page = '<p title="é">\r\n<p>'.encode()
+        self.assertEqual(self.found(page, "[title=é]", "p"), [("1:1", 0, 1), ("2:1", 1)])
+        self.assertEqual(self.found(b"<p title='\xff'>", "[title=\ufffd]"), [("1:1", 0)])
+
     def test_selector_that_is_not_accepted(self) -> None:
         with self.assertRaises(SelectorError) as raised:
             select(self.PAGE, ["p", "p::before"])
@@ -271,7 +312,7 @@ class Select(unittest.TestCase):
         self.assertEqual(done.stdout, wanted)
         done = subprocess.run([sys.executable, example, "a + b"], input=page, capture_output=True, text=True)
         self.assertEqual((done.stdout, done.returncode), ("", 1))
-        self.assertEqual(done.stderr, "Unsupported combinator `+` in selector. (item 0, byte 0) in 'a + b'\n")
+        self.assertTrue(done.stderr.startswith("Unsupported combinator `+` in selector.\n    a + b\n      ^ `+` steps to a sibling"))
 
     def test_example_cuts_selectors(self) -> None:
         for text, items in {
@@ -291,6 +332,15 @@ class Select(unittest.TestCase):
         done = subprocess.run([sys.executable, example, example.parent.parent], input=page, stdout=subprocess.PIPE, stderr=subprocess.PIPE, text=True)
         self.assertEqual(done.stdout, "2:32\tno such file\tnone.png\n2:52\tno such place in the page\t#c\n")
         self.assertEqual((done.stderr, done.returncode), ("2 wrong, 1 of other hosts\n", 1))
+        page = '<a href="#b" href="none.png">x</a><textarea><img src="none.png"></textarea><p id="b" id="c"><a href="#c">y</a>'
+        done = subprocess.run([sys.executable, example, example.parent.parent], input=page, stdout=subprocess.PIPE, stderr=subprocess.PIPE, text=True)
+        self.assertEqual(done.stdout, "1:93\tno such place in the page\t#c\n")
+
+    def test_example_numbers_tags_that_html_ends(self) -> None:
+        page = b"<div><svg><g><p>x</p></g></svg><br/><i></i></div>"
+        lines = ["1:14 <p>", "  selector 0: div > p", "    1:1   div  <div>", "    1:14  > p  <p>"]
+        lines += ["1:37 <i>", "  selector 1: div i", "    1:1   div  <div>", "    1:37  i    <i>"]
+        self.assertEqual(list(why.explained(page, ["div > p", "div i", "svg p"])), lines)
 
 
 if __name__ == "__main__":

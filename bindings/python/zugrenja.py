@@ -14,9 +14,10 @@ import ctypes
 import os
 from collections.abc import Callable, Iterable, Mapping
 from functools import partial
-from html.parser import HTMLParser
 from pathlib import Path
 from typing import NamedTuple
+
+from page_tags import PageTags
 
 GOOD, NEEDS_ATTRIBUTES, BAD_LINE, REFUSED, OUT_OF_MEMORY, NO_MATCHER = range(6)
 BUILT, NOT_UTF8, NOT_ACCEPTED, LIMIT, COUNTER, NOT_EXPLAINING, EXPLAINS = 8, 9, 10, 12, 13, 19, 21
@@ -30,10 +31,11 @@ CAUSES = (
 
 
 class SelectorError(ValueError):
-    """A text isn't accepted as a selector: the cause, and where, as the item of the list and the byte offset, both from 0."""
+    """A text isn't accepted as a selector: the cause, and where, as the item of the list and the character, both from 0. As a str it is what
+    people are told: the cause, the text's line, a caret under the place, and for some causes what to write in its place."""
 
-    def __init__(self, text: str, cause: str, says: str, item: int, offset: int) -> None:
-        super().__init__(f"{says} (item {item}, byte {offset}) in {text!r}")
+    def __init__(self, text: str, cause: str, message: str, item: int, offset: int) -> None:
+        super().__init__(message)
         self.text, self.cause, self.item, self.offset = text, cause, item, offset
 
 
@@ -62,7 +64,8 @@ class Refused(RuntimeError):
 
 
 class Match(NamedTuple):
-    """A start tag that selectors match: its place in the page, both from 1, the selectors' numbers, its text and its attributes."""
+    """A start tag that selectors match: its place in the page, both from 1, the selectors' numbers, its text and its attributes, of one name
+    the first."""
 
     line: int
     column: int
@@ -130,9 +133,10 @@ def _library() -> ctypes.CDLL:
         "free": [out],
         "run_script": [text, size, text, size, out],
         "text": [number, number, number, text, size],
+        "message": [text, size, out, text, size],
     }.items():
         call = getattr(library, f"zugrenja_{name}")
-        call.restype, call.argtypes = size if name == "text" else number, arguments
+        call.restype, call.argtypes = size if name in ("text", "message") else number, arguments
     return library
 
 
@@ -150,6 +154,14 @@ def _text(status: int, cause: int = 0, combinator: int = 0) -> str:
     return text.raw[:length].decode()
 
 
+def _message(text: bytes, refusal: _Refusal) -> str:
+    """What people are told of a text that isn't accepted."""
+    at = ctypes.addressof(refusal)
+    message = ctypes.create_string_buffer(_LIBRARY.zugrenja_message(text, len(text), at, None, 0))
+    _LIBRARY.zugrenja_message(text, len(text), at, message, len(message))
+    return message.raw.decode()
+
+
 def _written(write: Callable[..., int], room: int) -> tuple[int, str]:
     """The status of a call that writes the beginning of a text that fits, and all of the text."""
     written = ctypes.c_size_t()
@@ -164,14 +176,14 @@ def _written(write: Callable[..., int], room: int) -> tuple[int, str]:
 class Matcher:
     """Matches selectors against the start tags of a document, as its tags come. It is built by the first tag.
 
-    A list of selectors gets the ids 0, 1, .. Close it by `close`, or use it in a `with` block. It stays on its thread.
+    A list of selectors gets the ids 0, 1, .., and a text alone the id 0. Close it by `close`, or use it in a `with` block. It stays on its thread.
 
     With `explain` it says of each tag why it was reported. That takes more memory and time at each tag.
     """
 
     def __init__(
         self,
-        selectors: Iterable[str] = (),
+        selectors: str | Iterable[str] = (),
         *,
         max_memory: int | None = None,
         element_bytes: int = 64,
@@ -188,7 +200,7 @@ class Matcher:
         self._explains, self._reasons, self._numbers = explain, (_Reason * 8)(), (ctypes.c_size_t * 64)()
         self.ids: tuple[int, ...] = ()
         self.asked = False
-        for number, selector in enumerate(selectors):
+        for number, selector in enumerate([selectors] if isinstance(selectors, (str, bytes)) else selectors):
             self.add(number, selector)
 
     def __enter__(self) -> Matcher:
@@ -222,11 +234,11 @@ class Matcher:
         text, refusal = _bytes(selector), _Refusal()
         status = _LIBRARY.zugrenja_add(self._at, id, text, len(text), ctypes.addressof(refusal))
         if status == NOT_UTF8:
-            raise SelectorError(str(selector), "not UTF-8", _text(status), 0, 0)
+            raise SelectorError(text.decode("utf-8", "replace"), "not UTF-8", _text(status), 0, 0)
         if status == NOT_ACCEPTED:
             combinator = f"({chr(refusal.combinator)})" if refusal.combinator else ""
-            says = _text(status, refusal.cause, refusal.combinator)
-            raise SelectorError(str(selector), CAUSES[refusal.cause] + combinator, says, refusal.item, refusal.offset)
+            offset = len(text[: refusal.offset].decode())
+            raise SelectorError(text.decode(), CAUSES[refusal.cause] + combinator, _message(text, refusal), refusal.item, offset)
         self._check(status)
 
     def with_rows(self, fewest: int = ROWS_PAY_FROM) -> None:
@@ -371,30 +383,29 @@ def run_script(script: bytes) -> str:
     return text
 
 
-class _Selecting(HTMLParser):
-    """Tells a matcher of the tags of a page, all of them in the HTML namespace, and keeps what matches."""
+class _Selecting(PageTags):
+    """Tells a matcher of the tags of a page, and keeps what matches."""
 
     def __init__(self, matcher: Matcher) -> None:
-        super().__init__(convert_charrefs=True)
+        super().__init__()
         self.matcher, self.matches = matcher, []
 
-    def handle_starttag(self, tag: str, attrs: list[tuple[str, str | None]]) -> None:
-        if ids := self.matcher.start(tag, attrs):
+    def start(self, name: str, attributes: dict[str, str | None], namespace: str, self_closing: bool) -> None:
+        if ids := self.matcher.start(name, attributes, namespace, self_closing):
             line, column = self.getpos()
-            self.matches.append(Match(line, column + 1, ids, self.get_starttag_text() or "", dict(attrs)))
+            self.matches.append(Match(line, column + 1, ids, self.get_starttag_text() or "", attributes))
 
-    def handle_endtag(self, tag: str) -> None:
-        self.matcher.end(tag)
+    def end(self, name: str) -> None:
+        self.matcher.end(name)
 
 
-def select(html: str, selectors: Iterable[str]) -> list[Match]:
-    """The start tags of a page that selectors match, in their order.
+def select(html: str | bytes, selectors: str | Iterable[str]) -> list[Match]:
+    """The start tags of a page that selectors match, in their order. Bytes are UTF-8, and a text alone is one selector.
 
-    Python's html.parser reads the page: tags that a browser would add or move stay as they are written.
+    `PageTags` reads the page: tags that a browser would add or move stay as they are written.
     Raises SelectorError for a selector that isn't accepted.
     """
     with Matcher(selectors) as matcher:
         selecting = _Selecting(matcher)
-        selecting.feed(html)
-        selecting.close()
+        selecting.read(html)
         return selecting.matches

@@ -24,6 +24,8 @@ typedef struct {
     zugrenja_matcher matcher;
     bool tries;
     bool explains;
+    bool rows;
+    size_t fewest; /* nodes from which there are rows */
     bool built;
     uint64_t number;
     size_t open;
@@ -96,6 +98,10 @@ static void make(run *r, text script) {
         esi = esi || is(kind, "esi");
         r->tries = r->tries || is(kind, "tries");
         r->explains = r->explains || is(kind, "explain");
+        if (is(kind, "rows")) {
+            r->rows = true;
+            r->fewest = line.len > 0 ? number_of(line) : ZUGRENJA_ROWS_PAY_FROM;
+        }
     }
     r->ids_len = lines;
     r->ids = malloc(lines * sizeof *r->ids);
@@ -125,6 +131,17 @@ static int add(run *r, size_t line, text fields) {
     }
     r->lines[r->texts++] = line;
     return status == ZUGRENJA_GOOD ? 0 : 3;
+}
+
+/* Builds the matcher, with rows if the script asks for them. One that explains has none. */
+static uint32_t build(run *r) {
+    if (r->rows && !r->explains) {
+        uint32_t status = zugrenja_with_rows(&r->matcher, r->fewest);
+        if (status != ZUGRENJA_GOOD) {
+            return status;
+        }
+    }
+    return zugrenja_build(&r->matcher);
 }
 
 /* The attributes' places in the rest of a line. */
@@ -250,7 +267,7 @@ static int run_line(run *r, size_t number, text line) {
     if (!is(kind, "start") && !is(kind, "drop") && !is(kind, "end")) {
         return 0;
     }
-    if (!r->built && zugrenja_build(&r->matcher) != ZUGRENJA_GOOD) {
+    if (!r->built && build(r) != ZUGRENJA_GOOD) {
         return 3;
     }
     r->built = true;

@@ -48,6 +48,10 @@ static void write_words(void) {
     assert(zugrenja_text(ZUGRENJA_NO_MATCHER, 9, 9, out, 6) == 25 && is_written("the ha memory"));
     assert(zugrenja_text(ZUGRENJA_NOT_ACCEPTED, UINT32_MAX, 0, out, 0) == 13 && is_written("the ha memory"));
     assert(zugrenja_text(UINT32_MAX, 0, 0, out, 16) == 14 && is_written("unknown status"));
+    const uint8_t refused[] = "p>", latin[] = {0xe4};
+    const zugrenja_refusal dangling = {ZUGRENJA_DANGLING_COMBINATOR, 0, 0, 2}, none = {99, 0, 0, 0};
+    assert(zugrenja_message(refused, 2, &dangling, out, 8) == 47 && is_written("Danglingstatus"));
+    assert(zugrenja_message(refused, 2, &none, out, 16) == 0 && zugrenja_message(latin, 1, &dangling, out, 16) == 0);
 }
 
 static void explain(zugrenja_matcher *m, size_t room, uint32_t status, size_t length, const char *wanted) {

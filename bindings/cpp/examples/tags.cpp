@@ -42,6 +42,11 @@ public:
         for (std::string_view line : lines) {
             shows_tries_ = shows_tries_ || line == "tries";
             explains_ = explains_ || line == "explain";
+            if (line == "rows") {
+                rows_ = zugrenja::rows_pay_from;
+            } else if (line.substr(0, 5) == "rows\t") {
+                rows_ = number_of(line.substr(5));
+            }
         }
     }
 
@@ -54,6 +59,9 @@ public:
                 matcher_.add(std::uint32_t(number_of(parts[1])), line.substr(parts[0].size() + parts[1].size() + 2));
                 lines_.push_back(number);
             }
+        }
+        if (rows_ && !explains_) { // one that explains has no rows
+            matcher_.with_rows(*rows_);
         }
         matcher_.build();
     }
@@ -135,6 +143,7 @@ private:
     zugrenja::matcher matcher_;
     bool shows_tries_ = false;
     bool explains_ = false;
+    std::optional<std::size_t> rows_; // from so many nodes on
     std::vector<std::size_t> lines_; // of the selectors' texts
     std::uint64_t number_ = 0;
 };

@@ -30,7 +30,7 @@ def fault_of(address: str, folder: Path, anchors: set[str]) -> str | None:
 
 def main() -> None:
     folder = Path(sys.argv[1] if len(sys.argv) > 1 else ".")
-    matches = select(sys.stdin.read(), [*LINKS, BASE, ANCHORS])
+    matches = select(sys.stdin.buffer.read(), [*LINKS, BASE, ANCHORS])
     bases = [match.attributes["href"] or "" for match in matches if 2 in match.selectors]
     anchors = {match.attributes.get(name) or "" for match in matches for name in ("id", "name") if 3 in match.selectors}
     other_hosts, wrong = 0, 0

@@ -12,7 +12,7 @@ from zugrenja import SelectorError, select  # noqa: E402
 
 def main() -> None:
     try:
-        matches = select(sys.stdin.read(), sys.argv[1:])
+        matches = select(sys.stdin.buffer.read(), sys.argv[1:])
     except SelectorError as error:
         sys.exit(str(error))
     for match in matches:

@@ -8,9 +8,9 @@ from collections.abc import Iterable, Iterator
 from pathlib import Path
 
 sys.path.insert(0, str(Path(__file__).resolve().parent.parent))
-from zugrenja import LIMIT, Matcher, SelectorError, TagError  # noqa: E402
+from zugrenja import LIMIT, ROWS_PAY_FROM, Matcher, SelectorError, TagError  # noqa: E402
 
-BEFORE = (b"limit", b"esi", b"tries", b"explain", b"select")
+BEFORE = (b"limit", b"esi", b"tries", b"explain", b"rows", b"select")
 
 
 def joined(numbers: Iterable[object]) -> str:
@@ -50,6 +50,7 @@ def run(script: bytes) -> tuple[str, int]:
     lines = [line.split(b"\t") for line in script.split(b"\n")]
     limits = [int(fields[1]) for fields in lines if fields[0] == b"limit"]
     texts = [number for number, fields in enumerate(lines, 1) if fields[0] == b"select"]
+    rows = [int(fields[1]) if fields[1:] else ROWS_PAY_FROM for fields in lines if fields[0] == b"rows"]
     explain, out = [b"explain"] in lines, []
     with Matcher(max_memory=limits[-1] if limits else None, esi=[b"esi"] in lines, explain=explain) as matcher:
         for number, fields in enumerate(lines, 1):
@@ -58,6 +59,8 @@ def run(script: bytes) -> tuple[str, int]:
                     matcher.add(int(fields[1]), b"\t".join(fields[2:]))
                 except SelectorError as error:
                     return f"bad line {number}: {error.cause}\n", 2
+        if rows and not explain:  # a matcher that explains has none
+            matcher.with_rows(rows[-1])
         for fields in lines:
             if fields[0] and fields[0] not in BEFORE:
                 try:

@@ -7,11 +7,11 @@ number from 0, the item, and the elements that its compounds are passed by: the 
 import re
 import sys
 from collections.abc import Iterator
-from html.parser import HTMLParser
 from pathlib import Path
 from typing import NamedTuple
 
 sys.path.insert(0, str(Path(__file__).resolve().parent.parent))
+from page_tags import PageTags  # noqa: E402
 from zugrenja import Matcher, Reason, SelectorError  # noqa: E402
 
 # A comment, an escape, a string (up to the end of the text if it isn't closed), or one sign.
@@ -50,26 +50,26 @@ class Tag(NamedTuple):
     text: str
 
 
-class Explaining(HTMLParser):
+class Explaining(PageTags):
     """Tells a matcher that explains of the tags of a page. It keeps the tags by their numbers, with none for an end tag, and those that
     are matched, with the reasons."""
 
     def __init__(self, matcher: Matcher) -> None:
-        super().__init__(convert_charrefs=True)
+        super().__init__()
         self.matcher = matcher
         self.tags: list[Tag | None] = []
         self.matches: list[tuple[Tag, list[Reason]]] = []
 
-    def handle_starttag(self, tag: str, attrs: list[tuple[str, str | None]]) -> None:
+    def start(self, name: str, attributes: dict[str, str | None], namespace: str, self_closing: bool) -> None:
         line, column = self.getpos()
-        start = Tag(f"{line}:{column + 1}", " ".join((self.get_starttag_text() or "").split()))
-        self.tags.append(start)
-        if self.matcher.start(tag, attrs):
-            self.matches.append((start, self.matcher.explain()))
+        tag = Tag(f"{line}:{column + 1}", " ".join((self.get_starttag_text() or "").split()))
+        self.tags.append(tag)
+        if self.matcher.start(name, attributes, namespace, self_closing):
+            self.matches.append((tag, self.matcher.explain()))
 
-    def handle_endtag(self, tag: str) -> None:
+    def end(self, name: str) -> None:
         self.tags.append(None)
-        self.matcher.end(tag)
+        self.matcher.end(name)
 
 
 def chain(compounds: list[str], tags: list[Tag]) -> Iterator[str]:
@@ -79,13 +79,12 @@ def chain(compounds: list[str], tags: list[Tag]) -> Iterator[str]:
         yield f"    {tag.place:{places}}  {compound:{widths}}  {tag.text}"
 
 
-def explained(page: str, selectors: list[str]) -> Iterator[str]:
+def explained(page: str | bytes, selectors: list[str]) -> Iterator[str]:
     """The lines for a page."""
     items = [items_of(selector) for selector in selectors]
     with Matcher(selectors, explain=True) as matcher:
         explaining = Explaining(matcher)
-        explaining.feed(page)
-        explaining.close()
+        explaining.read(page)
     for start, reasons in explaining.matches:
         yield f"{start.place} {start.text}"
         for reason in reasons:
@@ -96,7 +95,7 @@ def explained(page: str, selectors: list[str]) -> Iterator[str]:
 
 def main() -> None:
     try:
-        for line in explained(sys.stdin.read(), sys.argv[1:]):
+        for line in explained(sys.stdin.buffer.read(), sys.argv[1:]):
             print(line)
     except SelectorError as error:
         sys.exit(str(error))

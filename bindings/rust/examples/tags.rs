@@ -59,6 +59,17 @@ fn settings_of(script: &[u8]) -> (Settings, bool) {
     (settings, shows_tries)
 }
 
+/// From how many nodes on a script has rows, if it asks for them. A matcher that explains has none.
+fn rows_of(script: &[u8], settings: Settings) -> Option<usize> {
+    let asks = |line| match cut(line, b'\t') {
+        (b"rows", Some(fewest)) => Some(text(fewest).parse().unwrap_or(usize::MAX)),
+        (b"rows", None) => Some(256),
+        _ => None,
+    };
+    let last = script.rsplit(|byte| *byte == b'\n').find_map(asks);
+    last.filter(|_| !settings.explain)
+}
+
 /// The matcher of a script, before the first tag, and the numbers of the lines of its texts.
 fn matcher_of(script: &[u8], settings: Settings) -> Result<(Matcher, Vec<usize>), Stopped> {
     let mut builder = Builder::with_settings(settings)?;
@@ -71,6 +82,9 @@ fn matcher_of(script: &[u8], settings: Settings) -> Result<(Matcher, Vec<usize>)
             added => added?,
         }
         numbers.push(number);
+    }
+    if let Some(fewest) = rows_of(script, settings) {
+        builder.with_rows_from(fewest)?;
     }
     Ok((builder.build()?, numbers))
 }

@@ -154,6 +154,32 @@ impl Error {
             offset: refusal.offset,
         }
     }
+
+    /// What people are told of the text that is refused: the cause, the text's line, and under it a caret at the place, beside which stands
+    /// what is refused and, for some causes, what to write in its place. Nothing of another error.
+    ///
+    /// ```
+    /// use zugrenja::Builder;
+    ///
+    /// let refused = Builder::new()?.add(0, "img, a + img").unwrap_err();
+    /// let message = refused.message("img, a + img").unwrap();
+    /// assert!(message.starts_with("Unsupported combinator `+` in selector.\n    img, a + img\n           ^ `+`"), "{message}");
+    /// # Ok::<(), zugrenja::Error>(())
+    /// ```
+    pub fn message(&self, text: &str) -> Option<String> {
+        let Error::Selector { cause, item, offset } = *self else {
+            return None;
+        };
+        let (cause, combinator) = cause.numbers();
+        let refusal = ffi::Refusal { cause, combinator, item, offset };
+        let write = |out: &mut [u8]| {
+            // SAFETY: `text`, `refusal` and `out` live.
+            unsafe { ffi::zugrenja_message(text.as_ptr(), text.len(), &refusal, out.as_mut_ptr(), out.len()) }
+        };
+        let mut told = vec![0; write(&mut [])];
+        write(&mut told);
+        String::from_utf8(told).ok()
+    }
 }
 
 impl fmt::Display for Error {

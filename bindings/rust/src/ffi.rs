@@ -160,6 +160,15 @@ extern "C" {
     /// The length of a text, at most [`TEXT`]. Writes what fits of it. It needs no handle.
     pub fn zugrenja_text(status: u32, cause: u32, combinator: u32, out: *mut u8, out_len: usize) -> usize;
 
+    /// The length of a message. Writes what fits of it. It needs no handle.
+    pub fn zugrenja_message(
+        text: *const u8,
+        text_len: usize,
+        refusal: *const Refusal,
+        out: *mut u8,
+        out_len: usize,
+    ) -> usize;
+
     /// GOOD, BAD_LINE, REFUSED, OUT_OF_MEMORY. Writes `written` always, and of `out` what fits of the output. It needs no handle.
     pub fn zugrenja_run_script(
         script: *const u8,

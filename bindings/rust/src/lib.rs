@@ -184,8 +184,8 @@ impl Builder {
     /// use zugrenja::{Builder, Cause, Error};
     ///
     /// let refused = Builder::new()?.add(0, "img, a + img").unwrap_err();
-    /// assert_eq!(refused, Error::Selector { cause: Cause::UnsupportedCombinator('+'), item: 1, offset: 5 });
-    /// assert_eq!(refused.to_string(), "Unsupported combinator `+` in selector. (item 1, byte 5)");
+    /// assert_eq!(refused, Error::Selector { cause: Cause::UnsupportedCombinator('+'), item: 1, offset: 7 });
+    /// assert_eq!(refused.to_string(), "Unsupported combinator `+` in selector. (item 1, byte 7)");
     /// # Ok::<(), Error>(())
     /// ```
     pub fn add(&mut self, id: u32, selectors: &str) -> Result<(), Error> {

@@ -49,9 +49,9 @@ fn each_cause_has_its_place() {
         (".foo()", Cause::InvalidClassName, 0, 1),
         ("svg|img", Cause::NamespacedSelector, 0, 3),
         ("a:hover", Cause::UnsupportedPseudoClassOrElement, 0, 2),
-        ("a + b", Cause::UnsupportedCombinator('+'), 0, 0),
-        ("a ~ b", Cause::UnsupportedCombinator('~'), 0, 0),
-        ("ä, é~b", Cause::UnsupportedCombinator('~'), 1, 4),
+        ("a + b", Cause::UnsupportedCombinator('+'), 0, 2),
+        ("a ~ b", Cause::UnsupportedCombinator('~'), 0, 2),
+        ("ä, é~b", Cause::UnsupportedCombinator('~'), 1, 6),
     ];
     let mut builder = Builder::new().unwrap();
     for (text, cause, item, offset) in refused {
@@ -67,7 +67,7 @@ fn each_cause_has_its_place() {
 #[test]
 fn errors_say_cause_and_place() {
     let refused = Matcher::new(["a", "b, c:root"]).unwrap_err();
-    let shown = "Unsupported pseudo-class or pseudo-element in selector. (item 1, byte 3)";
+    let shown = "Unsupported pseudo-class or pseudo-element in selector. (item 1, byte 5)";
     assert_eq!(refused.to_string(), shown);
     assert!(refused.source().is_none());
     let boxed: Box<dyn std::error::Error + Send + Sync> = refused.into();

@@ -1,6 +1,8 @@
 //! Why a call was refused.
 
-use lol_css::{ErrorLocation, SelectorError};
+ghost use Rattle.std.specs.Prelude.{◌≡◌, ◌↔◌, IsNone};
+
+use lol_css::{ErrorLocation, ErrorMessage, SelectorError};
 use thiserror::Error;
 
 /// Why a text wasn't added.
@@ -16,6 +18,19 @@ pub enum AddError {
     /// An allocation failed.
     #[error("out of memory")]
     Memory,
+}
+
+impl AddError {
+    /// What people are told of the text that was added: why it is refused, and under it a caret at the place; nothing where an allocation
+    /// failed.
+    pub fn message<'a>(&self, text: &'a str) -> Option<ErrorMessage<'a>>
+        ensures { IsNone result ↔ (self.now ≡ AddError.Memory) }
+    {
+        match *self {
+            AddError::Refused { cause, location } => Some(ErrorMessage::new(text, cause, location)),
+            AddError::Memory => None,
+        }
+    }
 }
 
 /// Why a tag wasn't answered.

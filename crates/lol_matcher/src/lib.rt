@@ -15,7 +15,7 @@ pub use error::{AddError, MatcherError};
 pub use lol_base::{
     AttributeBuffer, AttributeOutline, Attributes, AuxStartTagInfo, Bytes, Namespace, Range,
 };
-pub use lol_css::{ErrorLocation, SelectorError};
+pub use lol_css::{ErrorLocation, ErrorMessage, SelectorError};
 pub use lol_memory::{MatchId, MatchInfo};
 pub use lol_program::{ROWS_PAY_FROM, Tries};
 pub use lol_stack::ElementValue;

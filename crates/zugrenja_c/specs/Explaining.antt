@@ -4,12 +4,14 @@ use Rattle.lol_base.specs.StartTags.{StartTag}
 use Rattle.lol_base.specs.declared.namespace.Namespace.{Namespace}
 use Rattle.lol_explaining_matcher.specs.Explaining.{Explaining, ReportsFor, reasons_told, with_end, with_last}
 use Rattle.lol_explaining_matcher.specs.Preparing.{AddsText, Preparing}
-use Rattle.lol_matcher.specs.Answering.{Answers, IsFinishedAs, OpensFor, OpensStart, told_after, with_told}
+use Rattle.lol_matcher.specs.Answering.{Answers, IsFinishedAs, LeavesOpen, OpensFor, OpensStart, told_after, with_told}
+use Rattle.lol_matcher.specs.Noted.{started_told}
 use Rattle.lol_matcher.specs.Refusing.{Fits, RefusesFinish, RefusesStart, refusal_of}
 use Rattle.lol_matcher.specs.declared.error.MatcherError.{MatcherError}
 use Rattle.lol_matcher.specs.declared.error.MatcherError.TheVariants as errors
 use Rattle.lol_matcher.specs.declared.matcher.Started.{Started}
 use Rattle.lol_matcher.specs.declared.matcher.Started.TheVariants as answers
+use Rattle.lol_run_laws.specs.AskedRuns.{bare_tag}
 use Rattle.lol_reasons.specs.Explanations.{Reason}
 use Rattle.lol_reasons.specs.Numbered.{texts_in}
 use Rattle.zugrenja_c.specs.Numbers.{numbered_namespace, overwritten}
@@ -58,6 +60,7 @@ pub record IsStartRefusedExplained (error : MatcherError) (old : Explaining ℕ)
   pub running : old.failed ≡ false
   pub refused : RefusesStart error old.items name ns
   pub after : (new.failed ≡ true) × (new.matched ≡ [])
+  pub left : LeavesOpen error (started_told old.items.told name ns) (bare_tag name ns) old.items new.items
 
 -- What a start tag does, by its status.
 pub record StartsExplained (status : ℕ) (name : List ℕ) (namespace matched : ℕ) (old new : Explaining ℕ) : Type 0 where
@@ -89,6 +92,7 @@ pub record IsFinishRefusedExplained (error : MatcherError) (old : Explaining ℕ
   pub running : old.failed ≡ false
   pub refused : RefusesFinish error old.items tag
   pub after : (new.failed ≡ true) × (new.matched ≡ [])
+  pub left : LeavesOpen error (given_told old.items.told tag) tag old.items new.items
 
 -- What the attributes of the start tag that waits do, by their status.
 pub record FinishesExplained (status : ℕ) (text : List ℕ) (places : List AttributePlace) (closes : Bool) (matched : ℕ) (old new : Explaining ℕ) : Type 0 where

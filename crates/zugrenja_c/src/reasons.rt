@@ -100,7 +100,7 @@ pub(crate) fn lines_of(alloc: Global, told: &[Reason]) -> Result<Vec<u8>, AllocE
 {
     let mut lines = Vec::new(alloc);
     for reason in told {
-        push_reason(&mut lines, reason.item.text, reason)?;
+        push_reason(&mut lines, reason.item.text as u128, reason)?;
     }
     Ok(lines)
 }

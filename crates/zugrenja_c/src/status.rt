@@ -1,6 +1,6 @@
 //! The numbers that C gets: bindings/c/zugrenja.h names them.
 
-ghost use Rattle.std.specs.Prelude.{◌≡◌};
+ghost use Rattle.std.specs.Prelude.{◌≡◌, IfSome};
 ghost use Rattle.zugrenja_c.specs.Numbers.{cause_number, error_number, numbered_namespace};
 ghost use Rattle.zugrenja_c.specs.Sessions.{refusal_of};
 
@@ -101,6 +101,38 @@ impl Refusal {
             },
             item: location.item,
             offset: location.offset,
+        }
+    }
+
+    /// The cause, where its number is that of one that refuses a text.
+    pub(crate) fn cause(&self) -> Option<SelectorError>
+        ensures { IfSome result (λ cause. cause_number cause ≡ self.now.cause) }
+    {
+        Some(match self.cause {
+            0 => SelectorError::UnexpectedToken,
+            1 => SelectorError::UnexpectedEnd,
+            2 => SelectorError::MissingAttributeName,
+            3 => SelectorError::EmptySelector,
+            4 => SelectorError::DanglingCombinator,
+            5 => SelectorError::UnexpectedTokenInAttribute,
+            6 => SelectorError::UnsupportedPseudoClassOrElement,
+            7 => SelectorError::NestedNegation,
+            8 => SelectorError::NamespacedSelector,
+            9 => SelectorError::InvalidClassName,
+            10 => SelectorError::EmptyNegation,
+            11 => SelectorError::UnsupportedCombinator(char::from_u32(self.combinator)?),
+            12 => SelectorError::UnsupportedSyntax,
+            _ => return None,
+        })
+    }
+
+    /// The place.
+    pub(crate) fn location(&self) -> ErrorLocation
+        ensures { result ≡ record { item = self.now.item; offset = self.now.offset } }
+    {
+        ErrorLocation {
+            item: self.item,
+            offset: self.offset,
         }
     }
 }

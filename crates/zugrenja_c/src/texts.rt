@@ -4,6 +4,10 @@ ghost use Rattle.std.specs.Prelude.{◌≡◌, ◌≤◌, length};
 ghost use Rattle.zugrenja_c.specs.Numbers.{overwritten};
 ghost use Rattle.zugrenja_c.specs.Texts.{cause_text, text_of};
 
+use crate::status::Refusal;
+use lol_matcher::ErrorMessage;
+use std::fmt::{self, Write};
+
 /// Why a text isn't accepted: for `+` and `~`, the only combinators that are refused, with the sign.
 fn cause_text(cause: u32, combinator: u32) -> &'static str
     ensures text { result.now ≡ cause_text cause combinator }
@@ -74,4 +78,41 @@ pub extern "C" fn zugrenja_text(status: u32, cause: u32, combinator: u32, out: &
     let fitting = text.len().min(out.len());
     out[..fitting].copy_from_slice(&text[..fitting]);
     text.len()
+}
+
+/// Writes the beginning that fits of what people are told of a text that isn't accepted: why, and under the text's line a caret at the place.
+/// Returns the length of all of it: 0 where the text isn't UTF-8, and where no text is refused for such a cause. Takes no memory.
+#[unsafe(no_mangle)]
+pub extern "C" fn zugrenja_message(text: &[u8], refusal: &Refusal, out: &mut [u8]) -> usize
+    ensures room { length out.new ≡ length out.old }
+{
+    let (Ok(text), Some(cause)) = (str::from_utf8(text), refusal.cause()) else {
+        return 0;
+    };
+    let message = ErrorMessage::new(text, cause, refusal.location());
+    let mut fitting = Fitting { out, len: 0 };
+    let _ = write!(fitting, "{message}");
+    fitting.len
+}
+
+/// Takes the beginning of a text that fits, and counts all of it.
+#[derive(Drop)]
+struct Fitting<'a> {
+    out: &'a mut [u8],
+    len: usize,
+}
+
+impl fmt::Write for Fitting<'_> {
+    fn write_str(&mut self, text: &str) -> fmt::Result {
+        let Some(len) = self.len.checked_add(text.len()) else {
+            return Err(fmt::Error);
+        };
+        if let Some(room) = self.out.get_mut(self.len..) {
+            for (to, from) in room.iter_mut().zip(text.bytes()) {
+                *to = from;
+            }
+        }
+        self.len = len;
+        Ok(())
+    }
 }
