@@ -13,10 +13,10 @@ use Rattle.lol_vm.specs.FreeTags.{AreFlat, RunsWithoutMemory}
 use Rattle.lol_vm.specs.Refusals.{Allowance, Cause}
 use Rattle.lol_vm.specs.Views.{selectors}
 use Rattle.lol_vm.specs.Vms.{is_asked_for}
-use Rattle.lol_matcher.specs.Answering.{Answers, IfWaits, IsAnsweredAfter, IsFinishedAs, IsReported, OpensFor, OpensStart, with_told}
+use Rattle.lol_matcher.specs.Answering.{Answers, GrowsBy, IfWaits, IsAnsweredAfter, IsFinishedAs, IsReported, KeepsOne, LeavesOpen, OpensFor, OpensStart, with_told}
 use Rattle.lol_matcher.specs.Noted.{handed, handed_told}
 use Rattle.lol_matcher.specs.Refusing.{Fits, IsRefusedFor, RefusesFinish, RefusesStart, RefusesStartWith, allowance, refusal_of}
-use Rattle.lol_matcher.specs.Told.{Matching, Told, heard}
+use Rattle.lol_matcher.specs.Told.{Matching, Told, elements_of, heard}
 use Rattle.lol_matcher.specs.declared.error.MatcherError.{MatcherError}
 use Rattle.lol_matcher.specs.declared.error.MatcherError.TheVariants.{MemoryLimitExceeded, Memory, CounterFull, Failed, NotAsked, OutsideInput}
 use Rattle.lol_matcher.specs.declared.matcher.Started.TheVariants.{Reported, NeedsAttributes}
@@ -62,6 +62,14 @@ if_some None f h = h
 
 pub if_err : {A E : Type 0} (P : E → Type 0) (r : Result A E) (e : E) → r ≡ Err e → P e → IfErr r P
 if_err {A} {E} P r e is h = subst (λ (r : Result A E). IfErr r P) (sym is) h
+
+-- where memory was refused for the list of a report, the tag's element is open
+pub leaves_unreported : {T : Type 0} (told : Told) (tag : StartTag) (old new : Matching T) → new.open_elements ≡ elements_of told → OpensFor tag old new → LeavesOpen Memory told tag old new
+leaves_unreported told tag old new open_elements opens = inr (record { open_elements = open_elements; kept = grows (has_content old.told.esi tag) opens.kept })
+  where
+    grows : (content : Bool) → KeepsOne content new.matched old.kept new.kept → GrowsBy content old.kept new.kept
+    grows false kept = kept
+    grows true kept = (kept.0, kept.1)
 
 -- 2. What a matcher shows of the texts' selectors
 

@@ -61,12 +61,13 @@ impl<T: Drop> ExplainingMatcher<T> {
     ghost use Rattle.lol_base.specs.StartTags.{RangesAreInside};
     ghost use Rattle.lol_instructions.specs.declared.tries.Tries.{Tries};
     ghost use Rattle.lol_stack.specs.Calls.{IsCalledAtEach};
-    ghost use Rattle.lol_matcher.specs.Answering.{Answers, IfWaits, IsAnsweredAfter, IsFinishedAs, OpensFor, OpensStart, last_value, told_after, with_told};
+    ghost use Rattle.lol_matcher.specs.Answering.{Answers, IfWaits, IsAnsweredAfter, IsFinishedAs, LeavesOpen, OpensFor, OpensStart, last_value, told_after, with_told};
     ghost use Rattle.lol_matcher.specs.Building.{Building, started_with};
     ghost use Rattle.lol_matcher.specs.Keeping.{IsRefusal};
-    ghost use Rattle.lol_matcher.specs.Noted.{finished_told, handed, handed_told};
+    ghost use Rattle.lol_matcher.specs.Noted.{finished_told, handed, handed_told, started_told};
     ghost use Rattle.lol_matcher.specs.Refusing.{Fits, RefusesStart, RefusesStartWith, RefusesFinish, refusal_of};
     ghost use Rattle.lol_matcher.specs.Told.{heard};
+    ghost use Rattle.lol_run_laws.specs.AskedRuns.{bare_tag};
     ghost use Rattle.lol_reasons.specs.Explanations.{added_by};
     ghost use Rattle.lol_reasons.specs.Numbered.{HoldsItems, reason_shown, texts_in};
     ghost use Rattle.lol_vm.specs.Views.{match_of};
@@ -182,6 +183,8 @@ impl<T: Drop> ExplainingMatcher<T> {
             → RefusesStart error self.old.items name.now ns) }
         ensures after { OnErr result (self.old.failed ≡ false
             → (self.new.failed ≡ true) × (self.new.matched ≡ [])) }
+        ensures left { IfErr result (λ error. self.old.failed ≡ false → LeavesOpen error
+            (started_told self.old.items.told name.now ns) (bare_tag name.now ns) self.old.items self.new.items) }
         ensures texts { self.new.texts ≡ self.old.texts }
         ensures plainly { IfOk result (λ started. StartsPlainly started (texts_in self.old.texts)
             self.old.items name.now ns self.new.matched self.new.items.tries) }
@@ -202,9 +205,9 @@ impl<T: Drop> ExplainingMatcher<T> {
                 self.notes.count();
                 Ok(Started::NeedsAttributes)
             }
-            Err(error) => {
+            Err(cause) => {
                 self.notes.fail();
-                Err(error)
+                Err(cause)
             }
         }
     }
@@ -234,6 +237,8 @@ impl<T: Drop> ExplainingMatcher<T> {
             RefusesFinish error self.old.items tag)) }
         ensures after { IfErr result (λ error. IsRefusal error
             → (self.new.failed ≡ true) × (self.new.matched ≡ [])) }
+        ensures left { IfErr result (λ error. IsRefusal error → IfWaits self.old.items.told aux_info.entry (λ tag.
+            LeavesOpen error (finished_told self.old.items.told aux_info.entry) tag self.old.items self.new.items)) }
         ensures unchanged { IfErr result (λ error. (IsRefusal error → ⊥) → self.new ≡ self.old) }
         ensures texts { self.new.texts ≡ self.old.texts }
         ensures plainly { OnOk result (IfWaits self.old.items.told aux_info.entry (λ tag. FinishesPlainly
@@ -289,6 +294,9 @@ impl<T: Drop> ExplainingMatcher<T> {
             IsRefusal error → RefusesStartWith error self.old.items (handed name.now ns aux_info.entry)) }
         ensures after { IfErr result (λ error. IsRefusal error
             → (self.new.failed ≡ true) × (self.new.matched ≡ [])) }
+        ensures left { IfErr result (λ error. IsRefusal error → LeavesOpen error
+            (handed_told self.old.items.told (handed name.now ns aux_info.entry)) (handed name.now ns aux_info.entry)
+            self.old.items self.new.items) }
         ensures unchanged { IfErr result (λ error. (IsRefusal error → ⊥) → self.new ≡ self.old) }
         ensures texts { self.new.texts ≡ self.old.texts }
         ensures plainly { OnOk result (IsHandedPlainly (texts_in self.old.texts) self.old.items self.new.items
@@ -307,11 +315,11 @@ impl<T: Drop> ExplainingMatcher<T> {
                 self.notes.report(&self.explainer, &self.matcher)?;
                 Ok(())
             }
-            Err(error) => {
+            Err(why) => {
                 if self.matcher.has_failed() {
                     self.notes.fail();
                 }
-                Err(error)
+                Err(why)
             }
         }
     }

@@ -3,7 +3,7 @@ use Rattle.std.specs.Prelude.{ℕ, ◌≡◌, Bool, true, false, not, if◌then�
 use Rattle.lol_base.specs.StartTags.{Attribute}
 use Rattle.lol_base.specs.declared.namespace.Namespace.TheVariants.{Html}
 use Rattle.lol_base.specs.declared.comparison.AttrSelectorOperator.TheVariants.{Equal, Prefix, Substring}
-use Rattle.lol_base.specs.declared.comparison.ParsedCaseSensitivity.TheVariants.{AsciiCaseInsensitive, CaseSensitive}
+use Rattle.lol_base.specs.declared.comparison.ParsedCaseSensitivity.TheVariants.{AsciiCaseInsensitive, CaseSensitive, ExplicitCaseSensitive}
 use Rattle.lol_instructions.specs.Tests.{Element, AnyName, HasName, IsNthChild, HasId, HasClass, HasAttribute, Compares}
 use Rattle.lol_instructions.specs.Compounds.{Test, OfName, OfAttributes, NoneOf, SomeOf, Compound, all_of, any_of, by_names, is_open}
 use Rattle.lol_program.specs.Paths.{Path, Selectors, First, last_compound}
@@ -24,7 +24,8 @@ second_child = OfName (IsNthChild (record { step = pos 0; offset = pos 2 }))
 abbrev keys_are : Compound → Option (List ℕ) → Option AttributeKey → Bool → Type 0
 keys_are c tag attribute opens = one_key c ≡ record { name = tag; attribute = attribute; opens = opens }
 
--- 1. Keys: `div.a`, `*.c#i`, `[HREF=x].c`, `[HREF=x]`, `[HREF*=abcde][title]`, `[href*=abcde i]`, `:nth-child(2).a`, `:not(.a)`, `:is(p)`, `*`, `[href^=""]`
+-- 1. Keys: `div.a`, `*.c#i`, `[HREF=x].c`, `[HREF=x]`, `[HREF*=abcde][title]`, `[href*=abcde i]`,
+-- `[href*=abcde s]`, `.c[href*=abcde]`, `:nth-child(2).a`, `:not(.a)`, `:is(p)`, `*`, `[href^=""]`
 
 pub record AreKeys : Type 0 where
   pub named : keys_are (all_of (class (codes "a") ∷ name (codes "div") ∷ [])) (Some (codes "div")) None true
@@ -38,6 +39,10 @@ pub record AreKeys : Type 0 where
       None (Some (ByPart (codes "href") (codes "bcde"))) true
   pub caseless : keys_are (all_of (OfAttributes (Compares (codes "href") Substring (codes "abcde") AsciiCaseInsensitive) ∷ []))
       None (Some (ByAttribute (codes "href"))) true
+  pub flagged : keys_are (all_of (OfAttributes (Compares (codes "href") Substring (codes "abcde") ExplicitCaseSensitive) ∷ []))
+      None (Some (ByPart (codes "href") (codes "bcde"))) true
+  pub class_before_part : keys_are (all_of (class (codes "c") ∷ OfAttributes (Compares (codes "href") Substring (codes "abcde") CaseSensitive) ∷ []))
+      None (Some (ByClass (codes "c"))) true
   pub not_surely_open : keys_are (all_of (second_child ∷ class (codes "a") ∷ [])) None (Some (ByClass (codes "a"))) false
   pub negated : keys_are (all_of (NoneOf (any_of (all_of (class (codes "a") ∷ []) ∷ [])) ∷ [])) None None false
   pub chosen : keys_are (all_of (SomeOf (any_of (all_of (name (codes "p") ∷ []) ∷ [])) ∷ [])) None None false

@@ -31,8 +31,7 @@ pub(crate) struct NodeAbove {
 /// are passed by, the last compound's first.
 ///
 /// `address` is the node's in the program, `number` the element's start tag, `outer` are the open elements around it, the outermost first, and
-/// `numbers` theirs: where these aren't as many, it is the element's number alone. Only their ranges are read, so the element itself needn't
-/// be open.
+/// `numbers` theirs, as many. Only their ranges are read, so the element itself needn't be open.
 ///
 /// It looks at each instruction of the program for each compound, and at most once at each range of the open elements. An `Explainer` with a
 /// table looks at one.
@@ -55,7 +54,7 @@ pub fn witness_of<E>(
     NodeTable::new(alloc).witness_of(program, address, number, outer, numbers)
 }
 
-/// The same for an id that one path alone was added under: nothing if the program has no node with it.
+/// The same for an id that one path alone was added under.
 ///
 /// Where each item of each selector is added under an id of its own, the ids of a report are the items that match, and their witnesses are
 /// the reasons of the report.

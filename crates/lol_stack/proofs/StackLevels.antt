@@ -8,8 +8,10 @@ use Rattle.lol_base.specs.LocalNames.{Name}
 use Rattle.lol_stack.specs.TypedCounts.{TypedCount, counted_by_type, cut_to}
 use Rattle.lol_stack.specs.TypedLaws.{StandUpTo}
 use Rattle.lol_stack.specs.ClimbLaws.{stand_lower, none_stand, counting_stands, cutting_stands}
+use Rattle.lol_stack.specs.Lending.{with_data}
+use Rattle.lol_stack.specs.StackLending.{with_data_if, with_current}
 use Rattle.lol_stack.specs.Stacks.{items_in, typed_in, with_typed, counted_in, counted_if, counted_item}
-use Rattle.lol_stack.specs.LevelledStacks.{HasLevels, NewHasLevels, CountingKeepsLevels, OpeningKeepsLevels, ClosingKeepsLevels, SameHasLevels}
+use Rattle.lol_stack.specs.LevelledStacks.{HasLevels, NewHasLevels, CountingKeepsLevels, OpeningKeepsLevels, ClosingKeepsLevels, SameHasLevels, DataKeepLevels}
 use Rattle.lol_stack.specs.declared.stack_item.StackItemOf.{StackItemOf}
 use Rattle.lol_stack.specs.declared.stack.StackOf.{StackOf}
 use Rattle.lol_stack.specs.declared.stack.StackNames.{StackNames}
@@ -80,3 +82,13 @@ module _ {E : Type 0} where
       let last = slice_get (items_in s) (level - 1) in
       has_levels (counted_in s name) level typed (length-counted (with_typed s typed) last) (typed-counted (with_typed s typed) last)
       (stand_if-counted level (typed_in s) name levels)
+
+  -- other data of an element leave as many elements
+  length-with_data : (items : List (StackItemOf Name E)) (depth : ℕ) (w : E) (found : Option (StackItemOf Name E)) → length (with_data_if items depth w found) ≡ length items
+  length-with_data items depth w None = refl
+  length-with_data items depth w (Some item) = length-set items depth (with_data item w)
+
+  pub data_keep_levels : DataKeepLevels E
+  data_keep_levels s w levels =
+      let last = length (items_in s) - 1 in
+      has_levels (with_current s w) (length (items_in s)) (typed_in s) (length-with_data (items_in s) last w (slice_get (items_in s) last)) refl levels

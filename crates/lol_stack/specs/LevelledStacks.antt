@@ -1,6 +1,7 @@
 -- When the counters by type of a stack stand at the levels of its open elements.
 use Rattle.std.specs.Prelude.{ℕ, ◌≡◌, ◌≤◌, Bool, if◌then◌else◌, [], length, Some, None, IfSome}
 use Rattle.lol_base.specs.LocalNames.{Name}
+use Rattle.lol_stack.specs.StackLending.{with_current}
 use Rattle.lol_stack.specs.Stacks.{items_in, typed_in, counted_in, IsSame, IsPushed, IsClosed}
 use Rattle.lol_stack.specs.TypedLaws.{StandUpTo}
 use Rattle.lol_stack.specs.declared.stack_item.StackItemOf.{StackItemOf}
@@ -32,3 +33,7 @@ ClosingKeepsLevels E =
 
 abbrev pub SameHasLevels : Type 0 → Type 0
 SameHasLevels E = (old new : StackOf Name StackNames E) → HasLevels old → IsSame old new → HasLevels new
+
+-- Other data of the last element.
+abbrev pub DataKeepLevels : Type 0 → Type 0
+DataKeepLevels E = (s : StackOf Name StackNames E) (w : E) → HasLevels s → HasLevels (with_current s w)

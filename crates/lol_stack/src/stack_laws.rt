@@ -1,7 +1,7 @@
 //! What holds of every stack that began empty: each function takes and gives nothing, and its contract is the law.
 
 ghost use Rattle.lol_stack.specs.TypedLaws.{CountingAddsOne, CountsAtTheirLevel, CuttingDropsAbove, NoneStand, CountingStands, CuttingStands, CuttingFilters};
-ghost use Rattle.lol_stack.specs.LevelledStacks.{NewHasLevels, CountingKeepsLevels, OpeningKeepsLevels, ClosingKeepsLevels, SameHasLevels};
+ghost use Rattle.lol_stack.specs.LevelledStacks.{NewHasLevels, CountingKeepsLevels, OpeningKeepsLevels, ClosingKeepsLevels, SameHasLevels, DataKeepLevels};
 ghost use Rattle.lol_stack.specs.SoundStacks.{NewIsSound, CountingKeepsSound, OpeningKeepsSound, ClosingKeepsSound, SameIsSound, DataKeepSound, EndsAtLast};
 
 /// The active ranges of a stack are those of its open elements, and the depths of each name are theirs. So it is of a new stack, and
@@ -39,11 +39,12 @@ pub fn typed_levels_climb()
 {}
 
 /// On a stack these levels go up to the number of its open elements: so it is of a new stack, and counting a child, opening an element,
-/// closing elements and refused calls keep it so.
+/// closing elements, refused calls and other data of the last element keep it so.
 pub fn stacks_keep_their_levels<E>()
     ensures new { NewHasLevels E }
     ensures counting { CountingKeepsLevels E }
     ensures opening { OpeningKeepsLevels E }
     ensures closing { ClosingKeepsLevels E }
     ensures same { SameHasLevels E }
+    ensures lending { DataKeepLevels E }
 {}

@@ -176,10 +176,11 @@ dropped_tag = row (one (alone (OfName (IsNthChild (record { step = pos 0; offset
     (start_in Svg (codes "g") [] false false ∷ start (codes "p") ∷ End (codes "g") ∷ [])
     (Dropped ∷ Started (full 0 ∷ []) false 1 0 ∷ Ended [] ∷ [])
 
--- `circle` under 0: attributes are always asked for outside HTML, and a tag that closes itself isn't opened
+-- `circle` under 0: in SVG too names compare without case; attributes are always asked for outside HTML, and a tag that closes itself isn't
+-- opened
 abbrev pub self_closing_tag : WorkedRun
 self_closing_tag = row (one (named (codes "circle")))
-    (start_in Svg (codes "circle") [] true true ∷ End (codes "circle") ∷ [])
+    (start_in Svg (codes "CIRCLE") [] true true ∷ End (codes "circle") ∷ [])
     (Started (void 0 ∷ []) true 1 0 ∷ Ended [] ∷ [])
 
 -- `a[href]` under 0: attributes are asked for where the name fits

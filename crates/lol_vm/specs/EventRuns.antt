@@ -25,10 +25,14 @@ use Rattle.lol_vm.specs.declared.events.TagReport.{TagReport}
 abbrev pub machine_of : EventRun → Vm StartedElement
 machine_of run = run.vm
 
+-- how many events it has answered
+abbrev pub events_in : EventRun → ℕ
+events_in run = run.count
+
 -- A run has answered these events: its machine follows them, and so many were counted.
 pub record IsRunOf (s : Selectors) (esi : Bool) (item_bytes : ℕ) (before : Limiter) (run : EventRun) (events : List Event) (now : Limiter) : Type 0 where
   pub follows : Follows s esi item_bytes before (machine_of run) events now
-  pub counted : run.count ≡ length events
+  pub counted : events_in run ≡ length events
 
 -- An event more was answered.
 pub record Goes (s : Selectors) (esi : Bool) (item_bytes : ℕ) (before : Limiter) (run : EventRun) (events : List Event) (event : Event) (now : Limiter) (report : TagReport) : Type 0 where

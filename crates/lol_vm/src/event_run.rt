@@ -6,7 +6,7 @@ ghost use Rattle.lol_memory.specs.Limiter.{Limiter};
 ghost use Rattle.lol_instructions.specs.Counters.{full_count};
 ghost use Rattle.lol_vm.specs.Due.{IsWithinLimit};
 ghost use Rattle.lol_vm.specs.Events.{Event, Start, End};
-ghost use Rattle.lol_vm.specs.EventRuns.{ForEndInRun, ForRunOfEvents, ForTagInRun, GoesByEnd, GoesByStart, IsRunOf, machine_of};
+ghost use Rattle.lol_vm.specs.EventRuns.{ForEndInRun, ForRunOfEvents, ForTagInRun, GoesByEnd, GoesByStart, IsRunOf, events_in, machine_of};
 ghost use Rattle.lol_vm.specs.Follows.{HasOutcome, IsCharged, IsRefusedFor, Stops, opens};
 ghost use Rattle.lol_vm.specs.Premises.{ForEvents, ForHandedOf};
 ghost use Rattle.lol_stack.specs.declared.element_value.ElementValue.{ElementValue};
@@ -133,7 +133,7 @@ impl EventRun {
 
     /// How many events were answered.
     pub fn events(&self) -> usize
-        ensures { result ≡ self.now.count }
+        ensures { result ≡ events_in self.now }
     {
         self.count
     }

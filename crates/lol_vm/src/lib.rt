@@ -34,7 +34,7 @@ pub use lol_program::{
     AttributeMatcher, ChildCounter, Compilable, CompiledAttributeExpr, CompiledLocalNameExpr,
     CompiledPredicate, CompiledTest, Compiler, Condition, ExecutionBranch, Instruction,
     LocalNameExprTest, NameValue, OnAttributesExpr, OnTagNameExpr, Predicate, Program,
-    SelectorState, Test, Tries, TryExecResult,
+    ROWS_PAY_FROM, SelectorState, Test, Tries, TryExecResult,
 };
 pub use lol_stack::{
     AddChildError, AddressRanges, CounterItem, CounterList, ElementData, ElementValue,

@@ -1,4 +1,4 @@
-use Rattle.lol_stack.proofs.StackLevels.{new_has_levels, counting_keeps_levels, opening_keeps_levels, closing_keeps_levels, same_has_levels}
+use Rattle.lol_stack.proofs.StackLevels.{new_has_levels, counting_keeps_levels, opening_keeps_levels, closing_keeps_levels, same_has_levels, data_keep_levels}
 use Rattle.lol_stack.proofs.stack_laws.stacks_keep_their_levels.Goals as goal
 
 pub returns-clause-new : goal.returns-clause-new
@@ -15,3 +15,6 @@ returns-clause-closing g c = closing_keeps_levels
 
 pub returns-clause-same : goal.returns-clause-same
 returns-clause-same g c = same_has_levels
+
+pub returns-clause-lending : goal.returns-clause-lending
+returns-clause-lending g c = data_keep_levels

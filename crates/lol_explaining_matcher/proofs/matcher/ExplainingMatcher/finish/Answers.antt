@@ -1,10 +1,11 @@
 use Rattle.std.proofs.Common.{◌≡◌, sym, ap, subst, ◌∙◌, Err, rules}
 use Rattle.lol_reasons.specs.Numbered.{texts_in}
+use Rattle.lol_matcher.specs.Noted.{finished_told}
 use Rattle.lol_matcher.specs.Told.{Matching}
 use Rattle.lol_matcher.specs.declared.error.MatcherError.TheVariants.{Memory}
 use Rattle.lol_explaining_matcher.specs.Explaining.{Explains}
 use Rattle.lol_explaining_matcher.specs.Notes.{Noting}
-use Rattle.lol_explaining_matcher.proofs.Calls.{finishes, if_err, if_some, refused_unreported, refuses_finish, refuses_last_report}
+use Rattle.lol_explaining_matcher.proofs.Calls.{finishes, if_err, if_some, leaves_unreported, refused_unreported, refuses_finish, refuses_last_report}
 use Rattle.lol_explaining_matcher.proofs.Going.{finished_explains, refused_explains}
 use Rattle.lol_explaining_matcher.proofs.matcher.ExplainingMatcher.finish.Goals as goal
 
@@ -53,3 +54,16 @@ pub returns-then-has_failed-2-clause-refused_plainly : goal.returns-then-has_fai
 returns-then-has_failed-2-clause-refused_plainly g c =
     rw (← c.self.view_is)
     (λ refusal. refuses_finish c.plain_laws.ensures (texts_in c.self.inside.texts) c.self.inside.explainer c.self.inside.notes c.self.inside.matcher c.self.invariant c.in-Err.error c.args.aux_info (c.in-Err.ensures.refused refusal))
+
+pub returns-then-has_failed-2-clause-left : goal.returns-then-has_failed-2-clause-left
+returns-then-has_failed-2-clause-left g c = rw (← c.self.view_is) c.in-Err.ensures.left
+
+pub returns-in_err-report-in-Ok-clause-left : goal.returns-in_err-report-in-Ok-clause-left
+returns-in_err-report-in-Ok-clause-left g c =
+    let is : c.from_residual.result ≡ Err Memory = search rules in
+    let old = c.self.inside.matcher in
+    let new = c.finish.new.self in
+    let open_elements = ap (λ (m : Matching _). m.open_elements) c.in-Ok.ensures.ok in
+    rw (← c.self.view_is)
+    (if_err _ c.from_residual.result Memory is
+    (λ refusal. if_some old.told.asked (λ asked opens. leaves_unreported (finished_told old.told c.args.aux_info) _ old new open_elements opens) c.in-Ok.ensures.opens))

@@ -1,13 +1,15 @@
-use Rattle.std.proofs.Common.{◌≡◌, sym, ap, subst, ◌∙◌, Err, rules}
+use Rattle.std.proofs.Common.{◌≡◌, refl, sym, ap, subst, ◌∙◌, Err, rules}
 use Rattle.lol_reasons.specs.Numbered.{items_of, texts_in}
+use Rattle.lol_run_laws.specs.AskedRuns.{bare_tag}
 use Rattle.lol_matcher.specs.Answering.{Answers, OpensStart, told_after, with_told}
+use Rattle.lol_matcher.specs.Noted.{started_told}
 use Rattle.lol_matcher.specs.Refusing.{Fits}
 use Rattle.lol_matcher.specs.Told.{Matching}
 use Rattle.lol_matcher.specs.declared.error.MatcherError.TheVariants.{Memory}
 use Rattle.lol_matcher.specs.declared.matcher.Started.{Started}
 use Rattle.lol_explaining_matcher.specs.Explaining.{Explains, with_report_of}
 use Rattle.lol_explaining_matcher.specs.Notes.{Noting}
-use Rattle.lol_explaining_matcher.proofs.Calls.{asks, if_err, refused_unreported, refuses_report, refuses_start, starts}
+use Rattle.lol_explaining_matcher.proofs.Calls.{asks, if_err, leaves_unreported, refused_unreported, refuses_report, refuses_start, starts}
 use Rattle.lol_explaining_matcher.proofs.Going.{asked_explains, refused_explains, started_explains}
 use Rattle.lol_explaining_matcher.proofs.matcher.ExplainingMatcher.start.Goals as goal
 
@@ -93,7 +95,7 @@ returns-in-Err-clause-refused g c = rw (← c.self.view_is) (λ well. c.in-Err.e
 
 pub returns-in-Err-clause-refused_plainly : goal.returns-in-Err-clause-refused_plainly
 returns-in-Err-clause-refused_plainly g c =
-    rw (← c.self.view_is) (λ well. refuses_start c.plain_laws.ensures (texts_in c.self.inside.texts) c.self.inside.explainer c.self.inside.notes c.self.inside.matcher c.self.invariant c.in-Err.error c.args.name.now c.args.ns (c.in-Err.ensures.refused (c.self.invariant.goes well).unfailed))
+    rw (← c.self.view_is) (λ well. refuses_start c.plain_laws.ensures (texts_in c.self.inside.texts) c.self.inside.explainer c.self.inside.notes c.self.inside.matcher c.self.invariant c.in-Err.cause c.args.name.now c.args.ns (c.in-Err.ensures.refused (c.self.invariant.goes well).unfailed))
 
 pub returns-in_err-report-in-Ok-Reported-clause-refused : goal.returns-in_err-report-in-Ok-Reported-clause-refused
 returns-in_err-report-in-Ok-Reported-clause-refused g c =
@@ -107,3 +109,17 @@ returns-in_err-report-in-Ok-Reported-clause-refused_plainly g c =
     let fits = subst (λ (s : Started). Fits s c.self.inside.matcher c.args.name.now c.args.ns) c.in-Ok-Reported.field-0-is c.in-Ok-Reported.ensures.fits.1 in
     rw (← c.self.view_is)
     (if_err _ c.from_residual.result Memory is (λ well. refuses_report c.plain_laws.ensures (texts_in c.self.inside.texts) c.self.inside.explainer c.self.inside.notes c.self.inside.matcher c.self.invariant c.args.name.now c.args.ns fits))
+
+pub returns-in-Err-clause-left : goal.returns-in-Err-clause-left
+returns-in-Err-clause-left g c = rw (← c.self.view_is) (λ well. c.in-Err.ensures.left (c.self.invariant.goes well).unfailed)
+
+pub returns-in_err-report-in-Ok-Reported-clause-left : goal.returns-in_err-report-in-Ok-Reported-clause-left
+returns-in_err-report-in-Ok-Reported-clause-left g c =
+    let is : c.from_residual.result ≡ Err Memory = search rules in
+    let old = c.self.inside.matcher in
+    let new = c.start.new.self in
+    let tag = bare_tag c.args.name.now c.args.ns in
+    let ok = subst (λ (s : Started). new ≡ with_told (told_after s old.told c.args.name.now c.args.ns) old new) c.in-Ok-Reported.field-0-is c.in-Ok-Reported.ensures.ok in
+    let opens = subst (λ (s : Started). OpensStart s c.args.name.now c.args.ns old new) c.in-Ok-Reported.field-0-is c.in-Ok-Reported.ensures.opens in
+    rw (← c.self.view_is)
+    (if_err _ c.from_residual.result Memory is (λ well. leaves_unreported (started_told old.told c.args.name.now c.args.ns) tag old new (ap (λ (m : Matching _). m.open_elements) ok) (opens tag refl refl)))

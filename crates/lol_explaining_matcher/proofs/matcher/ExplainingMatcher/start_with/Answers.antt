@@ -6,7 +6,7 @@ use Rattle.lol_matcher.specs.Told.{Matching}
 use Rattle.lol_matcher.specs.declared.error.MatcherError.TheVariants.{Memory}
 use Rattle.lol_explaining_matcher.specs.Explaining.{Explaining, Explains, with_report_of}
 use Rattle.lol_explaining_matcher.specs.Notes.{Noting}
-use Rattle.lol_explaining_matcher.proofs.Calls.{hands, if_err, refused_unreported, refuses_handed, refuses_handed_report}
+use Rattle.lol_explaining_matcher.proofs.Calls.{hands, if_err, leaves_unreported, refused_unreported, refuses_handed, refuses_handed_report}
 use Rattle.lol_explaining_matcher.proofs.Going.{handed_explains, refused_explains}
 use Rattle.lol_explaining_matcher.proofs.matcher.ExplainingMatcher.start_with.Goals as goal
 
@@ -60,4 +60,16 @@ returns-then-has_failed-2-clause-refused g c = rw (← c.self.view_is) c.in-Err.
 pub returns-then-has_failed-2-clause-refused_plainly : goal.returns-then-has_failed-2-clause-refused_plainly
 returns-then-has_failed-2-clause-refused_plainly g c =
     rw (← c.self.view_is)
-    (λ refusal. refuses_handed c.plain_laws.ensures (texts_in c.self.inside.texts) c.self.inside.explainer c.self.inside.notes c.self.inside.matcher c.self.invariant c.in-Err.error (handed c.args.name.now c.args.ns c.args.aux_info) (c.in-Err.ensures.refused refusal))
+    (λ refusal. refuses_handed c.plain_laws.ensures (texts_in c.self.inside.texts) c.self.inside.explainer c.self.inside.notes c.self.inside.matcher c.self.invariant c.in-Err.why (handed c.args.name.now c.args.ns c.args.aux_info) (c.in-Err.ensures.refused refusal))
+
+pub returns-then-has_failed-2-clause-left : goal.returns-then-has_failed-2-clause-left
+returns-then-has_failed-2-clause-left g c = rw (← c.self.view_is) c.in-Err.ensures.left
+
+pub returns-in_err-report-in-Ok-clause-left : goal.returns-in_err-report-in-Ok-clause-left
+returns-in_err-report-in-Ok-clause-left g c =
+    let is : c.from_residual.result ≡ Err Memory = search rules in
+    let old = c.self.inside.matcher in
+    let new = c.start_with.new.self in
+    let tag = handed c.args.name.now c.args.ns c.args.aux_info in
+    let open_elements = ap (λ (m : Matching _). m.open_elements) c.in-Ok.ensures.ok in
+    rw (← c.self.view_is) (if_err _ c.from_residual.result Memory is (λ refusal. leaves_unreported (handed_told old.told tag) tag old new open_elements c.in-Ok.ensures.opens))
