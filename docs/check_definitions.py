@@ -15,10 +15,12 @@ from concurrent.futures import ThreadPoolExecutor
 # The modules whose contracts are rows.
 ROWS = [
     ("lol_css", "rows"),
-    ("lol_vm", "rows"),
+    ("lol_keys", "rows"),
+    ("lol_reasons", "rows"),
     ("lol_script", "laws"),
     ("lol_vectors", "caseless_names"),
     ("lol_vectors", "void_names"),
+    ("lol_vectors", "worked_answers"),
     ("lol_vectors", "worked_runs"),
     ("lol_vectors", "worked_texts"),
 ]
@@ -26,6 +28,8 @@ ROWS = [
 CRATE = r"Rattle\.((?:lol|test)_\w+)"
 SPEC = re.compile(CRATE + r"\.specs\.(?!declared)(\w+)")
 DECLARED = re.compile(CRATE + r"\.specs\.declared\.([\w.]+)")
+# A row or a test, as DEFINITIONS.md names it, and a clause of it.
+NAMED = re.compile(r"`((?:lol|test)_\w+)::((?:\w+::)*)(\w+)(?:, (\w+))?`")
 DECLARATION = re.compile(
     r"^pub(?:\(crate\))? (?:(?:enum|struct) (\w+)[^;{]*\{.*?^\}|type (\w+)[^;]*;)", re.M | re.S
 )
@@ -241,6 +245,31 @@ def prove_unchanged(repository, folder):
         raise SystemExit(f"the rows aren't proved before any change:\n{told[-3000:]}")
 
 
+def unresolved(repository, scratch, changes):
+    """What is named and isn't there: modules of rows, definitions that no row stands on, crates of tests, and rows and tests in DEFINITIONS.md."""
+    crates = f"{repository}/crates"
+    absent = [f"{crate}::{module}" for crate, module in ROWS if not os.path.isfile(f"{crates}/{crate}/src/{module}.rt")]
+    if absent:
+        return absent
+    specs = Definitions(repository, scratch).specs
+    for change in changes:
+        for path, *_ in change.edits["definition"]:
+            if tuple(path.removesuffix(".antt").split("/specs/")) not in specs:
+                absent.append(f"a row on {path}")
+        if change.tests and not os.path.isdir(f"{crates}/{change.tests}"):
+            absent.append(change.tests)
+    for match in NAMED.finditer(read(f"{repository}/docs/DEFINITIONS.md")):
+        crate, modules, function, clause = match.groups()
+        module = modules.strip(":").replace("::", "/")
+        files = [f"{crates}/{crate}/src/{module}.rt", f"{crates}/{crate}/proofs/{module}/{function}/Answers.antt"]
+        text, proof = (read(path) if os.path.isfile(path) else "" for path in files)
+        contract = re.search(rf"\bfn {function}\b.*?^\{{" if clause else rf"\bfn {function}\b", text, re.M | re.S)
+        of_clause = rf"ensures {clause} |returns-clause-{clause} |^\s+{clause} =" if clause else ""
+        if not contract or not re.search(of_clause, f"{contract[0]}\n{proof}", re.M):
+            absent.append(match[0])
+    return absent
+
+
 def line(change, found, passes):
     named = "; ".join(name for names in found for name in names)
     return f"{'refused' if passes else 'NOT REFUSED'}: {change.section}: {change.change}: {named}"
@@ -270,6 +299,9 @@ def main():
         for change in changes:
             for kind in change.edits:
                 change.apply(kind, f"{given.repository}/crates", lambda path, text: None)
+        absent = unresolved(given.repository, given.scratch, changes)
+        if absent:
+            raise SystemExit(f"not there: {', '.join(absent)}")
         print(f"{len(changes)} changes can be made")
         return
     base = f"{given.scratch}/unchanged"
