@@ -1,5 +1,5 @@
 -- Where the tokens and the code points of a text begin.
-use Rattle.std.proofs.Common.{◌≡◌, ℕ, zero, suc, ◌+◌, ◌-◌, ◌<◌, Bool, true, false, eqb, ◌&&◌, List, [], ◌∷◌, ◌++◌, map, length, get_or, Option, Some, None, is_some, refl, ap, ◌∙◌, arith}
+use Rattle.std.proofs.Common.{◌≡◌, ℕ, zero, suc, ◌+◌, ◌-◌, ◌<◌, Bool, true, false, eqb, ◌&&◌, List, [], ◌∷◌, ◌++◌, map, length, get_or, Option, Some, None, refl, ap, ◌∙◌, arith}
 use Rattle.std.proofs.lemmas.Str.{chars_past_char, length-encode}
 use Rattle.std.proofs.Math.Utf8.{encode}
 use Rattle.std.specs.Char.{len_utf8}
@@ -41,27 +41,12 @@ starts-stops points e =
     let none : next_start points ≡ None = ap (λ (o : Option (Option Token × List ℕ)). option_map {U = Option ℕ × List ℕ} (λ f. (option_map (λ token. length points) f.0, f.1)) o) e in
     ap (λ (p : List (Option ℕ) × List ℕ). somes p.0) (many-none next_start points none)
 
--- the token is the one that is sought
-pub start-here : {X : Type 0} (view : X → Token) (points rest : List ℕ) (found : Option X) (n : ℕ) → next points ≡ Some (option_map view found, rest) → is_some found ≡ true → n ≡ 0 → get_or (token_starts points) n 0 ≡ length points
-start-here view points rest None n e h z = absurd cc
-start-here view points rest (Some x) n e h z = rw (starts-first points (view x) rest e, z) refl
+pub ruleset start_steps = (starts-first, starts-passes, starts-stops)
 
--- the token is passed
-pub start-next : {X : Type 0} (view : X → Token) (points rest : List ℕ) (found : Option X) (n : ℕ) → next points ≡ Some (option_map view found, rest) → is_some found ≡ true → ¬ (n ≡ 0) → get_or (token_starts points) n 0 ≡ get_or (token_starts rest) (n - 1) 0
-start-next view points rest None n e h z = absurd cc
-start-next view points rest (Some x) zero e h z = absurd (z refl)
-start-next view points rest (Some x) (suc n) e h z = let m : suc n - 1 ≡ n = omega arith in rw (starts-first points (view x) rest e, m) refl
-
--- a comment is passed
-pub start-comment : {X : Type 0} (view : X → Token) (points rest : List ℕ) (found : Option X) (n : ℕ) → next points ≡ Some (option_map view found, rest) → is_some found ≡ false → get_or (token_starts points) n 0 ≡ get_or (token_starts rest) n 0
-start-comment view points rest None n e h = rw (starts-passes points rest e) refl
-start-comment view points rest (Some x) n e h = absurd cc
-
-pub start-end : (points : List ℕ) (n : ℕ) → next points ≡ None → get_or (token_starts points) n 0 ≡ 0
-start-end points n e = rw (starts-stops points e) refl
-
-pub next-shorter : (points : List ℕ) (found : Option Token) (rest : List ℕ) → next points ≡ Some (found, rest) → length rest < length points
-next-shorter points found rest e = next-shrinks.shorter points found rest e
+-- one of several is passed
+pub get_or-next : (whole : List ℕ) (first : ℕ) (others : List ℕ) (n d : ℕ) → whole ≡ first ∷ others → ¬ (n ≡ 0) → get_or whole n d ≡ get_or others (n - 1) d
+get_or-next whole first others zero d e z = absurd (z refl)
+get_or-next whole first others (suc n) d e z = let m : suc n - 1 ≡ n = omega arith in rw (e, m) refl
 
 -- ---- code points
 
@@ -89,13 +74,9 @@ pub offset-here : (before offset : ℕ) (bs : List ℕ) (c offset2 : ℕ) (rest 
 offset-here before offset bs c offset2 rest n d r e z =
     rw (offsets_past before offset bs c offset2 rest r, single_of (eqb before carriage_return && eqb c line_feed) before offset c (offsets_after c offset2 (chars rest)) refl e, z) refl
 
-offset_next_of : (offset : ℕ) (others : List ℕ) (n d : ℕ) → ¬ (n ≡ 0) → get_or (offset ∷ others) n d ≡ get_or others (n - 1) d
-offset_next_of offset others zero d z = absurd (z refl)
-offset_next_of offset others (suc n) d z = let m : suc n - 1 ≡ n = omega arith in rw m refl
-
 pub offset-next : (before offset : ℕ) (bs : List ℕ) (c offset2 : ℕ) (rest : List ℕ) (n d : ℕ) → Passes offset bs c offset2 rest → (eqb before carriage_return && eqb c line_feed) ≡ false → ¬ (n ≡ 0) → get_or (offsets_after before offset (chars bs)) n d ≡ get_or (offsets_after c offset2 (chars rest)) (n - 1) d
 offset-next before offset bs c offset2 rest n d r e z =
-    rw (offsets_past before offset bs c offset2 rest r, single_of (eqb before carriage_return && eqb c line_feed) before offset c (offsets_after c offset2 (chars rest)) refl e) (offset_next_of offset (offsets_after c offset2 (chars rest)) n d z)
+    rw (offsets_past before offset bs c offset2 rest r, single_of (eqb before carriage_return && eqb c line_feed) before offset c (offsets_after c offset2 (chars rest)) refl e) (get_or-next (offset ∷ offsets_after c offset2 (chars rest)) offset (offsets_after c offset2 (chars rest)) n d refl z)
 
 pub offset-joined : (before offset : ℕ) (bs : List ℕ) (c offset2 : ℕ) (rest : List ℕ) (n d : ℕ) → Passes offset bs c offset2 rest → (eqb before carriage_return && eqb c line_feed) ≡ true → get_or (offsets_after before offset (chars bs)) n d ≡ get_or (offsets_after c offset2 (chars rest)) n d
 offset-joined before offset bs c offset2 rest n d r e =

@@ -53,12 +53,8 @@ impl<'a> Reader<'a> {
     pub(crate) fn new(text: &'a [char]) -> Reader<'a>
         ensures { result ≡ tokens_of text.now }
     {
-        let (ahead, rest) = first_token(text);
-        Reader {
-            ahead,
-            start: text,
-            text: rest,
-        }
+        let (ahead, start, text) = first_token(text);
+        Reader { ahead, start, text }
     }
 
     /// The text of the tokens that are left.
@@ -89,8 +85,8 @@ impl<'a> Reader<'a> {
     pub(crate) fn next(&mut self) -> Option<Token<'a>>
         ensures { IsFirst self.old (option_map token_of result) self.new }
     {
-        let (ahead, text) = first_token(self.text);
-        self.start = self.text;
+        let (ahead, start, text) = first_token(self.text);
+        self.start = start;
         self.text = text;
         mem::replace(&mut self.ahead, ahead)
     }

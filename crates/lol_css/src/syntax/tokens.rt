@@ -4,6 +4,7 @@ ghost use Rattle.std.specs.Prelude.{◌≡◌, ◌<◌, ◌≤◌, length, drop,
 ghost use Rattle.std.specs.Option.{option_map};
 ghost use Rattle.lol_css.specs.Points.{many, first_that, is_white_space, is_decimal, is_sign, past, name};
 ghost use Rattle.lol_css.specs.Tokens.{comment, in_comment, space, hash, cdc, identifier, match_operator, match_sign, delim, next, numeral, number, string, leading_sign, after_fraction, after_exponent, tokens_of};
+ghost use Rattle.lol_css.specs.Locating.{token_starts};
 ghost use Rattle.lol_css.specs.Views.{Took, IsFirst, token_of, numeral_of};
 
 use crate::syntax::points::{
@@ -334,7 +335,7 @@ fn delim(text: &[char]) -> Found<'_>
 
 /// What stands first: a token, or a comment, and what is left.
 #[tactic(auto, unfolding(crate::specs::Tokens::next))]
-pub(crate) fn next(text: &[char]) -> Found<'_>
+fn next(text: &[char]) -> Found<'_>
     ensures { Took (λ x. (option_map token_of x.0, x.1.now)) result (next text.now) }
 {
     if let Some(found) = comment(text) {
@@ -364,16 +365,19 @@ pub(crate) fn next(text: &[char]) -> Found<'_>
     delim(text)
 }
 
-/// The next token, and the text after it.
-#[tactic(auto, using(crate::proofs::Streams::token_steps))]
-pub(crate) fn first_token(text: &[char]) -> (Option<Token<'_>>, &[char])
-    ensures { IsFirst (tokens_of text.now) (option_map token_of result.0) (tokens_of result.1.now) }
+/// The next token, the text from it on, and the text after it.
+#[tactic(auto, using(crate::proofs::Streams::token_steps, crate::proofs::Places::start_steps))]
+pub(crate) fn first_token(text: &[char]) -> (Option<Token<'_>>, &[char], &[char])
+    ensures first { IsFirst (tokens_of text.now) (option_map token_of result.0) (tokens_of result.2.now) }
+    ensures whole { tokens_of result.1.now ≡ tokens_of text.now }
+    ensures starts { IsFirst (token_starts text.now)
+        (option_map (λ _. length result.1.now) result.0) (token_starts result.2.now) }
 {
     let mut rest = text;
     loop {
         match next(rest) {
-            None => return (None, rest),
-            Some((Some(token), after)) => return (Some(token), after),
+            None => return (None, rest, rest),
+            Some((Some(token), after)) => return (Some(token), rest, after),
             Some((None, after)) => rest = after,
         }
     }
@@ -386,7 +390,7 @@ pub(crate) fn count_tokens(text: &[char]) -> usize
 {
     let mut count = 0;
     let mut rest = text;
-    while let (Some(_), after) = first_token(rest) {
+    while let (Some(_), _, after) = first_token(rest) {
         count += 1;
         rest = after;
     }
