@@ -19,7 +19,7 @@ use Rattle.lol_program.specs.Sets.{SameMembers}
 use Rattle.lol_base.specs.Ascending.{ascending_once}
 use Rattle.lol_vm.specs.Answers.{after, answer, asks, document, document_from, is_dropped, report}
 use Rattle.lol_vm.specs.AnswerLaws.{document_push}
-use Rattle.lol_run_laws.specs.AskedRuns.{bare_tag, told_of}
+use Rattle.lol_laws.specs.AskedRuns.{bare_tag, told_of}
 use Rattle.lol_vm.specs.Documents.{Document, empty, element_of, outer_part, inner_part, index_of}
 use Rattle.lol_vm.specs.Events.{Event, Start, End, has_content, has_content_in}
 use Rattle.lol_vm.specs.Laws.{ids_of}

@@ -15,7 +15,7 @@ use Rattle.lol_vm.specs.Laws.{ids_of}
 use Rattle.lol_vm.specs.Refusals.{Allowance, longest, refusal}
 use Rattle.lol_vm.specs.Views.{match_of, selectors}
 use Rattle.lol_vm.specs.Vms.{is_asked_for}
-use Rattle.lol_run_laws.specs.AskedRuns.{bare_tag, told_of}
+use Rattle.lol_laws.specs.AskedRuns.{bare_tag, told_of}
 use Rattle.lol_matcher.specs.Refusing.{refusal_after}
 use Rattle.lol_matcher.specs.Told.{Matching, elements_of, heard}
 use Rattle.lol_reasons.specs.Explanations.{Added, Text, added_by, explanations, explanations_from, pairs_added, reasons, reasons_at}

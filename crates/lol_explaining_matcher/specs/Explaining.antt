@@ -10,7 +10,7 @@ use Rattle.lol_vm.specs.Answers.{document, is_dropped, report}
 use Rattle.lol_vm.specs.Documents.{element_of}
 use Rattle.lol_vm.specs.Events.{Event, Start}
 use Rattle.lol_vm.specs.Laws.{ids_of}
-use Rattle.lol_run_laws.specs.AskedRuns.{bare_tag}
+use Rattle.lol_laws.specs.AskedRuns.{bare_tag}
 use Rattle.lol_vm.specs.Views.{selectors}
 use Rattle.lol_vm.specs.Vms.{is_asked_for}
 use Rattle.lol_matcher.specs.Answering.{with_ended, with_value}

@@ -17,7 +17,7 @@ use Rattle.lol_vm.specs.Events.{Event, Start, End, has_content}
 use Rattle.lol_vm.specs.Refusals.{Cause}
 use Rattle.lol_vm.specs.Views.{match_of}
 use Rattle.lol_vm.specs.Vms.{is_asked_for}
-use Rattle.lol_run_laws.specs.AskedRuns.{told_of}
+use Rattle.lol_laws.specs.AskedRuns.{told_of}
 use Rattle.lol_matcher.specs.Answering.{IsReported}
 use Rattle.lol_matcher.specs.Refusing.{IsRefusedFor, allowance, refusal_after}
 use Rattle.lol_matcher.specs.Told.{Matching, Told, heard}

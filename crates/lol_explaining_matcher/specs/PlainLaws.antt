@@ -1,5 +1,5 @@
 -- What leads from items under their numbers to the selectors as they were added.
-use Rattle.lol_run_laws.specs.ToldTags.{ToldIsAnsweredAlike}
+use Rattle.lol_laws.specs.ToldTags.{ToldIsAnsweredAlike}
 use Rattle.lol_reasons.specs.NumberingLaws.{NodesDecideTheRest, NumbersChangeNoNode, NumbersNameWhatMatches}
 use Rattle.lol_reasons.specs.ReasonLaws.{EachHasOneReason, PairsAreAdded, ReasonsGiveReport}
 

@@ -67,7 +67,7 @@ impl<T: Drop> ExplainingMatcher<T> {
     ghost use Rattle.lol_matcher.specs.Noted.{finished_told, handed, handed_told, started_told};
     ghost use Rattle.lol_matcher.specs.Refusing.{Fits, RefusesStart, RefusesStartWith, RefusesFinish, refusal_of};
     ghost use Rattle.lol_matcher.specs.Told.{heard};
-    ghost use Rattle.lol_run_laws.specs.AskedRuns.{bare_tag};
+    ghost use Rattle.lol_laws.specs.AskedRuns.{bare_tag};
     ghost use Rattle.lol_reasons.specs.Explanations.{added_by};
     ghost use Rattle.lol_reasons.specs.Numbered.{HoldsItems, reason_shown, texts_in};
     ghost use Rattle.lol_vm.specs.Views.{match_of};

@@ -10,7 +10,7 @@ use Rattle.lol_vm.specs.declared.error.AuxStartTagInfoRequest.{AuxStartTagInfoRe
 use Rattle.lol_matcher.specs.Answering.{Kept}
 use Rattle.lol_matcher.specs.Keeping.{Waits, Runs, RunsPast, ids_of}
 use Rattle.lol_matcher.specs.Told.{Told, heard, with_dropped}
-use Rattle.lol_run_laws.specs.AskedRuns.{bare_tag}
+use Rattle.lol_laws.specs.AskedRuns.{bare_tag}
 
 -- A tag waits, and its request with it.
 pub record IsWaiting {T : Type 0} (told : Told) (vm : Vm (Kept T)) (request : AuxStartTagInfoRequest (Kept T)) : Type 0 where

@@ -13,7 +13,7 @@ use Rattle.lol_vm.specs.Refusals.{Allowance}
 use Rattle.lol_vm.specs.Views.{match_of}
 use Rattle.lol_vm.specs.Vms.{Vm, is_asked_for, tries_in}
 use Rattle.lol_matcher.specs.Answering.{IsReported, reported_after, with_told}
-use Rattle.lol_run_laws.specs.AskedRuns.{bare_tag, told_of}
+use Rattle.lol_laws.specs.AskedRuns.{bare_tag, told_of}
 use Rattle.lol_matcher.specs.Keeping.{IsHandedAs, IsHandedUnreported, IsToldAs, IsUnreported, Runs}
 use Rattle.lol_matcher.specs.Noted.{handed_told, with_elements}
 use Rattle.lol_matcher.specs.Told.{History, Matching}

@@ -16,7 +16,7 @@ use Rattle.lol_vm.specs.Views.{selectors}
 use Rattle.lol_vm.specs.Vms.{Vm, Stands, HasOpen, IsPending, IsRestOf, data_in, is_asked_for, slots_charged, slot_bytes, tries_in}
 use Rattle.lol_vm.specs.declared.error.AuxStartTagInfoRequest.{AuxStartTagInfoRequest}
 use Rattle.lol_matcher.specs.Answering.{GrowsBy, IsReported, Kept, KeepsOne, with_value}
-use Rattle.lol_run_laws.specs.AskedRuns.{told_of}
+use Rattle.lol_laws.specs.AskedRuns.{told_of}
 use Rattle.lol_matcher.specs.Refusing.{allowance, refusal_after}
 use Rattle.lol_matcher.specs.Told.{History, elements_of, heard}
 use Rattle.lol_matcher.specs.declared.error.MatcherError.{MatcherError}

@@ -7,7 +7,7 @@ use Rattle.lol_memory.specs.declared.match_info.MatchInfo.{MatchInfo}
 use Rattle.lol_program.specs.declared.ast.Ast.{Ast}
 use Rattle.lol_stack.specs.declared.element_value.ElementValue.{ElementValue}
 use Rattle.lol_vm.specs.Answers.{document}
-use Rattle.lol_run_laws.specs.AskedRuns.{bare_tag}
+use Rattle.lol_laws.specs.AskedRuns.{bare_tag}
 use Rattle.lol_vm.specs.Events.{Event, Start}
 use Rattle.lol_vm.specs.Views.{selectors}
 

@@ -2,9 +2,9 @@
 
 ghost use Rattle.lol_vm.specs.Standing.{DocumentsAreOrdered};
 ghost use Rattle.lol_vm.specs.VmLaws.{DataChangeNothing, DataKeepOpen, DataKeepRequests, LastDataAreLent, LastDataChange, PendingStands, SlotsAreOfDepth, StandingCounts, StandingHasOpen};
-ghost use Rattle.lol_run_laws.specs.AskedRuns.{AskedRunsAnswerAlike, ToldGoesOn};
+ghost use Rattle.lol_laws.specs.AskedRuns.{AskedRunsAnswerAlike, ToldGoesOn};
 
-use lol_run_laws::laws::asked_runs_answer_alike;
+use lol_laws::run_laws::asked_runs_answer_alike;
 use lol_vm::machine_laws::documents_are_ordered;
 use lol_vm::vm_laws::{
     data_change_nothing, dropped_requests_stand, last_data_are_lent, slots_are_of_depth,

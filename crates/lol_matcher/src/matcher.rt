@@ -108,7 +108,7 @@ impl<T: Drop> Matcher<T> {
     ghost use Rattle.lol_matcher.specs.Noted.{finished_told, handed, handed_told, started_told};
     ghost use Rattle.lol_matcher.specs.Refusing.{Fits, RefusesStart, RefusesStartWith, RefusesFinish, refusal_of};
     ghost use Rattle.lol_matcher.specs.Told.{elements_of, heard};
-    ghost use Rattle.lol_run_laws.specs.AskedRuns.{bare_tag};
+    ghost use Rattle.lol_laws.specs.AskedRuns.{bare_tag};
     ghost use Rattle.lol_vm.specs.Views.{match_of, selectors};
     ghost use Rattle.lol_vm.specs.Vms.{IsTriedAtMost, Stands, data_in, open_after};
 

@@ -8,9 +8,9 @@ use Rattle.lol_base.specs.ListLaws.{get_or-any}
 use Rattle.lol_base.specs.MemberLaws.{Among, among_map, contains_from_among}
 use Rattle.lol_base.specs.PlaceLaws.{some_is}
 use Rattle.lol_instructions.specs.declared.instruction.Instruction.{Instruction}
-use Rattle.lol_key_table.specs.KeyTables.{IsTableOf}
-use Rattle.lol_key_table.specs.declared.key_table.Entry.{Entry}
-use Rattle.lol_key_table.specs.declared.key_table.KeyTable.{KeyTable}
+use Rattle.lol_rows.specs.KeyTables.{IsTableOf}
+use Rattle.lol_rows.specs.declared.key_table.Entry.{Entry}
+use Rattle.lol_rows.specs.declared.key_table.KeyTable.{KeyTable}
 use Rattle.lol_rows.specs.Rows.{hash_by, keys_by, passes, passes_at, AreAlikeAt, AreAlikeUnless}
 use Rattle.lol_rows.specs.KeyRows.{address_of, left_of_row, AreBesideAlike, AreOfOneHash}
 use Rattle.lol_rows.specs.declared.row_kind.RowKind.{RowKind}

@@ -11,8 +11,8 @@ use Rattle.lol_base.specs.Ascending.{IsStrictlyAscending}
 use Rattle.lol_base.specs.AscendingLaws.{ascends_from_pairs, determined}
 use Rattle.lol_base.specs.MemberLaws.{Among, among_filter, among_from_contains, among_map, contains_from_among, filter_among, map_among}
 use Rattle.lol_instructions.specs.declared.instruction.Instruction.{Instruction}
-use Rattle.lol_key_table.specs.KeyTables.{IsEntryWithin}
-use Rattle.lol_key_table.specs.declared.key_table.Entry.{Entry}
+use Rattle.lol_rows.specs.KeyTables.{IsEntryWithin}
+use Rattle.lol_rows.specs.declared.key_table.Entry.{Entry}
 use Rattle.lol_rows.specs.Rows.{addresses, passes_at, passing}
 use Rattle.lol_rows.specs.KeyRows.{address_of, left_of_row}
 use Rattle.lol_rows.proofs.Left.{among_range, ascends_filter, ascends_range, hashed_at, instruction_at, range_among}

@@ -12,8 +12,8 @@ use Rattle.lol_base.specs.ListLaws.{get_or-any}
 use Rattle.lol_base.specs.BoolLaws.{and_parts, not_true}
 use Rattle.lol_base.specs.PlaceLaws.{some_is}
 use Rattle.lol_instructions.specs.declared.instruction.Instruction.{Instruction}
-use Rattle.lol_key_table.specs.KeyTables.{IsEntryWithin}
-use Rattle.lol_key_table.specs.declared.key_table.Entry.{Entry}
+use Rattle.lol_rows.specs.KeyTables.{IsEntryWithin}
+use Rattle.lol_rows.specs.declared.key_table.Entry.{Entry}
 use Rattle.lol_rows.specs.KeyHashes.{hash_of_name}
 use Rattle.lol_rows.specs.LeftLaws.{hash_is}
 use Rattle.lol_rows.specs.Rows.{keys_of, name_hash_of, is_left_by_name, is_left_open, passes, passes_at, addresses, some_pass, HasPassing, NonePasses}

@@ -1,3 +1,5 @@
+mod Runs
+mod Listed
 mod Left
 mod PairLemmas
 mod Found

@@ -2,7 +2,7 @@
 use Rattle.std.specs.Prelude.{ℕ, ◌≡◌, ◌+◌, ◌<◌, ◌⊎◌, Bool, List, map, filter, length, slice_get, slice_index_or, Some, Contains}
 use Rattle.std.specs.Option.{option_copied}
 use Rattle.lol_instructions.specs.declared.instruction.Instruction.{Instruction}
-use Rattle.lol_key_table.specs.declared.key_table.Entry.{Entry}
+use Rattle.lol_rows.specs.declared.key_table.Entry.{Entry}
 use Rattle.lol_rows.specs.Rows.{hash_by, keys_by, leaves, passes_at, AreAlikeAt, AreRowsBy, HoldEach}
 use Rattle.lol_rows.specs.declared.key_rows.KeyRows.{KeyRows}
 use Rattle.lol_rows.specs.declared.tag_keys.TagKeys.{TagKeys}

@@ -1,4 +1,5 @@
 pub mod KeyHashes
+pub mod KeyTables
 pub mod SortedHashes
 pub mod TagHashes
 pub mod Rows

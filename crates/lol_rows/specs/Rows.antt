@@ -8,7 +8,7 @@ use Rattle.lol_instructions.specs.Keys.{AttributeKey, ById, ByClass, ByPart, ByA
 use Rattle.lol_instructions.specs.CompiledKeys.{keys_in, lacks_key}
 use Rattle.lol_instructions.specs.Attributes.{TagAttributes}
 use Rattle.lol_instructions.specs.declared.instruction.Instruction.{Instruction}
-use Rattle.lol_key_table.specs.KeyTables.{IsTableOf}
+use Rattle.lol_rows.specs.KeyTables.{IsTableOf}
 use Rattle.lol_rows.specs.KeyHashes.{after_name, hash_after, hash_of_name, hash_of_pair}
 use Rattle.lol_rows.specs.SortedHashes.{AreHashesOf}
 use Rattle.lol_rows.specs.declared.key_rows.KeyRows.{KeyRows}

@@ -4,16 +4,16 @@ ghost use Rattle.std.specs.Prelude.{◌≡◌, ◌++◌, ◌+◌, ◌≤◌, ℕ
 ghost use Rattle.std.specs.Bool.{OnTrue};
 ghost use Rattle.std.specs.Vec.{vec_capacity};
 ghost use Rattle.std.specs.Option.{option_copied};
-ghost use Rattle.lol_key_table.specs.KeyTables.{IsTableOf};
+ghost use Rattle.lol_rows.specs.KeyTables.{IsTableOf};
 ghost use Rattle.lol_rows.specs.declared.row_kind.RowKind.{RowKind};
 ghost use Rattle.lol_rows.specs.Rows.{hash_by, leaves, passing, AreAlikeAt, AreRowsBy};
 ghost use Rattle.lol_rows.specs.KeyRows.{CanFind, AreBesideAlike, AreOfOneHash, address_of, left_of_row};
 
+use crate::key_table::{Entry, KeyTable};
 use crate::row_kind::RowKind;
 use crate::sorted_hashes::SortedHashes;
 use crate::tag_keys::TagKeys;
 use lol_instructions::{AddressRange, Instruction};
-use lol_key_table::{Entry, KeyTable};
 use std::alloc::{AllocError, Global};
 
 /// The addresses of instructions by the hashes of their keys. They take 8 bytes for each instruction.

@@ -3,6 +3,7 @@
 
 mod key_hashes;
 mod key_rows;
+mod key_table;
 pub mod laws;
 mod row_kind;
 mod rows;

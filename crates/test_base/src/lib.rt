@@ -7,7 +7,6 @@ mod attributes;
 #[cfg(test)]
 mod cases;
 #[cfg(test)]
-mod key_tables;
 #[cfg(test)]
 mod limits;
 #[cfg(test)]

@@ -11,7 +11,7 @@ use Rattle.lol_matcher.specs.declared.error.MatcherError.{MatcherError}
 use Rattle.lol_matcher.specs.declared.error.MatcherError.TheVariants as errors
 use Rattle.lol_matcher.specs.declared.matcher.Started.{Started}
 use Rattle.lol_matcher.specs.declared.matcher.Started.TheVariants as answers
-use Rattle.lol_run_laws.specs.AskedRuns.{bare_tag}
+use Rattle.lol_laws.specs.AskedRuns.{bare_tag}
 use Rattle.lol_reasons.specs.Explanations.{Reason}
 use Rattle.lol_reasons.specs.Numbered.{texts_in}
 use Rattle.zugrenja_c.specs.Numbers.{numbered_namespace, overwritten}

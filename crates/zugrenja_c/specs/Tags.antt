@@ -3,7 +3,7 @@ use Rattle.std.specs.Prelude.{Option, ◌-◌, ◌^◌, min, ℕ, take, drop, ve
 use Rattle.lol_base.specs.StartTags.{StartTag, attribute_of, OutlineIsInside}
 use Rattle.lol_base.specs.declared.namespace.Namespace.{Namespace}
 use Rattle.lol_base.specs.declared.start_tag.AttributeOutline.{AttributeOutline}
-use Rattle.lol_run_laws.specs.AskedRuns.{bare_tag}
+use Rattle.lol_laws.specs.AskedRuns.{bare_tag}
 use Rattle.lol_vm.specs.Events.{Start}
 use Rattle.lol_vm.specs.Vms.{open_after}
 use Rattle.lol_matcher.specs.Answering.{Answers, IsFinishedAs, LeavesOpen, OpensFor, OpensStart, refused_with, told_after, with_told}

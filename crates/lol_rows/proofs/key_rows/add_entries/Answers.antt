@@ -1,6 +1,6 @@
 use Rattle.std.proofs.Common.{◌++◌, List, map, sym, ap, ◌∙◌, append-nil}
 use Rattle.std.proofs.lemmas.List.{take_all}
-use Rattle.lol_key_table.specs.declared.key_table.Entry.{Entry}
+use Rattle.lol_rows.specs.declared.key_table.Entry.{Entry}
 use Rattle.lol_rows.specs.KeyRows.{address_of}
 use Rattle.lol_rows.proofs.Found.{address_added}
 use Rattle.lol_rows.proofs.key_rows.add_entries.Goals as goal

@@ -1,7 +1,7 @@
 use Rattle.std.proofs.Common.{arith, inl, inr, refl, sym, subst, List, ℕ, ◌-◌, ◌∷◌, [], get_or, Contains}
 use Rattle.std.proofs.lemmas.List.Elements.{Contains-append_left, Contains-append_right}
 use Rattle.lol_base.specs.MemberLaws.{contains_from_among}
-use Rattle.lol_key_table.specs.declared.key_table.Entry.{Entry}
+use Rattle.lol_rows.specs.declared.key_table.Entry.{Entry}
 use Rattle.lol_rows.proofs.Alike.{next_alike}
 use Rattle.lol_rows.proofs.key_rows.shared_hashes.Goals as goal
 use Rattle.lol_rows.proofs.key_rows.shared_hashes.Goals.{then-one-other+then-not-are_alike_at+in_ok-push, else-one-other, else-one-other-via-then-one-other+else-not-are_alike_at, else-one-other-via-else-one-other}

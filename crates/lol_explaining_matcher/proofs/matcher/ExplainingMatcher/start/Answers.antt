@@ -1,6 +1,6 @@
 use Rattle.std.proofs.Common.{◌≡◌, refl, sym, ap, subst, ◌∙◌, Err, rules}
 use Rattle.lol_reasons.specs.Numbered.{items_of, texts_in}
-use Rattle.lol_run_laws.specs.AskedRuns.{bare_tag}
+use Rattle.lol_laws.specs.AskedRuns.{bare_tag}
 use Rattle.lol_matcher.specs.Answering.{Answers, OpensStart, told_after, with_told}
 use Rattle.lol_matcher.specs.Noted.{started_told}
 use Rattle.lol_matcher.specs.Refusing.{Fits}

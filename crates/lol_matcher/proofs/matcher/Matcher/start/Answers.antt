@@ -1,7 +1,7 @@
 use Rattle.std.proofs.Common.{◌≡◌, [], ◌∷◌, ◌++◌, refl, inr, ap, subst}
 use Rattle.lol_base.specs.StartTags.{StartTag}
 use Rattle.lol_vm.specs.Answers.{document}
-use Rattle.lol_run_laws.specs.AskedRuns.{bare_tag}
+use Rattle.lol_laws.specs.AskedRuns.{bare_tag}
 use Rattle.lol_vm.specs.Events.{Start, has_content}
 use Rattle.lol_vm.specs.Views.{selectors}
 use Rattle.lol_vm.specs.Vms.{HasOpen, IsTriedAtMost, data_in, tries_in}

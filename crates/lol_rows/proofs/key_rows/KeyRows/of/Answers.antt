@@ -1,5 +1,5 @@
 use Rattle.std.proofs.Common.{List, subst}
-use Rattle.lol_key_table.specs.declared.key_table.Entry.{Entry}
+use Rattle.lol_rows.specs.declared.key_table.Entry.{Entry}
 use Rattle.lol_rows.specs.KeyRows.{AreBesideAlike}
 use Rattle.lol_rows.proofs.Alike.{alike_unless}
 use Rattle.lol_rows.proofs.key_rows.KeyRows.of.Goals as goal
