@@ -38,7 +38,7 @@ use Rattle.lol_reasons.specs.declared.explainer.Explainer.{Explainer}
 use Rattle.lol_reasons.specs.Numbered.{HoldsItems, items_of}
 use Rattle.lol_reasons.specs.NumberingLaws.{SameNodes}
 use Rattle.lol_reasons.specs.ReasonLaws.{ids_of_reasons}
-use Rattle.lol_explaining_matcher.specs.Explaining.{AreNumbered, Explains, Goes, IsLast, IsReported, matches_under, numbers_around, numbers_open, reasons_told, report_under, with_opened, with_report_of}
+use Rattle.lol_explaining_matcher.specs.Explaining.{AreNumbered, Explains, Goes, IsReported, matches_under, numbers_around, numbers_open, reasons_told, report_under, with_opened, with_report_of}
 use Rattle.lol_explaining_matcher.specs.Notes.{Noting, nothing_noted, with_event, with_refusal}
 use Rattle.lol_explaining_matcher.specs.Plain.{last_or, plain_selectors}
 use Rattle.lol_explaining_matcher.specs.PlainLaws.{LawsHold}
@@ -401,30 +401,6 @@ ended_explains {T} laws texts explainer notes old new name n was ended are_open 
           waits = tt;
           last = last_reasons (selectors old.told.ast) old.told.esi (added_by texts) (heard old.told) (End name);
         })
-
--- What is kept of the open elements tells nothing.
-pub values_explain : {T : Type 0} (texts : List Text) (explainer : Explainer) (notes : Noting) (old new : Matching T) → new ≡ record old { kept = new.kept } → Explains texts explainer notes old → Explains texts explainer notes new
-values_explain {T} texts explainer notes old new is was = subst (Explains texts explainer notes) (sym is) (record {
-  holds = was.holds;
-  nodes = was.nodes;
-  goes = λ ok.
-      let goes = was.goes ok in
-      record {
-        unfailed = goes.unfailed;
-        counted = goes.counted;
-        are_open = goes.are_open;
-        numbered = goes.numbered;
-        waits = goes.waits;
-        last = by_reported notes.reported goes.last;
-      };
-  reports = was.reports;
-  shows = λ ok. let shows = was.shows ok in record { reported = shows.reported; tried = shows.tried; opened = shows.opened; open_elements = shows.open_elements };
-  silent = was.silent;
-})
-  where
-    by_reported : (b : Bool) → IsLast texts b old notes.numbers → IsLast texts b (record old { kept = new.kept }) notes.numbers
-    by_reported true last = last
-    by_reported false last = last
 
 -- a matcher that was told of nothing yet
 pub first_explains : {T : Type 0} (laws : LawsHold) (texts : List Text) (old explainer : Explainer) (m : Matching T) (b : Building) (tries : Tries)

@@ -40,15 +40,6 @@ module _ {T : Type 0} where
       ap (λ n. slice_set (x ∷ y ∷ xs) n (record e { value = value })) (last_index x y xs)
       ∙ ap (λ es. x ∷ es) (with_value_is value (y ∷ xs) e (subst (λ n. slice_get (x ∷ y ∷ xs) n ≡ Some e) (last_index x y xs) is))
 
-  pub no_last : (xs : List (Kept T)) → slice_get xs (length xs - 1) ≡ None → xs ≡ []
-  no_last [] is = refl
-  no_last (x ∷ []) is = absurd (none_is is)
-  no_last (x ∷ y ∷ xs) is = absurd (none_more x y xs is)
-    where
-      none_more : (x y : Kept T) (xs : List (Kept T)) → slice_get (x ∷ y ∷ xs) (length (x ∷ y ∷ xs) - 1) ≡ None → ⊥
-      none_more x y [] is = none_is is
-      none_more x y (z ∷ xs) is = none_more y z xs (subst (λ n. slice_get (x ∷ y ∷ z ∷ xs) n ≡ None) (last_index x y (z ∷ xs)) is)
-
   -- 2. One more element
 
   more : (old : List (Kept T)) (e : Kept T) → length old < length (old ++ e ∷ [])

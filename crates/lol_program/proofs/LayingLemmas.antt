@@ -234,6 +234,3 @@ node_done n address free start middle more_free first second i start_is middle_i
     (subst (λ k. AreLaid second k (k + width n.descendants) n.descendants) at ld)
     (subst (λ k. SameOutside (free + size n.children) k first second) end (subst (λ k. SameOutside k more_free first second) at s))
     (λ by_type serves. instruction_right by_type n.compound n.ids n.children n.descendants free i serves compiled keys ids (jumps ∙ ap (range_of n.children) start_is) (hereditary_jumps ∙ ap (range_of n.descendants) at))
-
-pub same_from : (start start' end : ℕ) (old old' new : List code.Instruction) → start ≡ start' → old ≡ old' → SameOutside start end old new → SameOutside start' end old' new
-same_from start start' end old old' new start_is old_is h = subst (λ k. SameOutside k end old' new) start_is (subst (λ l. SameOutside start end l new) old_is h)

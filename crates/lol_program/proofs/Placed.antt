@@ -5,7 +5,7 @@ use Rattle.std.proofs.lemmas.List.{get_or-map, map-set, length-map, length-appen
 use Rattle.std.proofs.Math.Seq.{set-append_seam, get_or-append_seam}
 use Rattle.lol_css.specs.declared.selector.Combinator.{Combinator}
 use Rattle.lol_instructions.specs.Compounds.{Compound}
-use Rattle.lol_program.specs.Forest.{Node, Forest, none, link, size, SiblingsDiffer}
+use Rattle.lol_program.specs.Forest.{Node, Forest, link, size, SiblingsDiffer}
 use Rattle.lol_css.specs.declared.selector.Compound as css
 use Rattle.lol_program.proofs.Grown.{added_differ, first_differ}
 use Rattle.lol_program.specs.Indices.{IsIndex, HasIndex, IsNowhere}
@@ -52,9 +52,6 @@ set_at_index c R old mid i n x h at r =
     let f : get_or (map node_of mid) i (node_of n) ≡ shape (out-AstNode n) = get_or-map node_of mid i n (node_of n) within ∙ (ap node_of (sym at) ∙ node_out n) in
     subst (λ (ns : List Node). AtRoot c R (forest_of old) (linked ns)) (sym e)
     (at_index c R (shape x) (map node_of old) (map node_of mid) i (node_of n) h (subst (λ (y : Node). R y (shape x)) (sym f) r))
-
-size_link : (n : Node) (rest : Forest) → size (link n rest) ≡ size (link n none) + size rest
-size_link n rest = omega arith
 
 pub size_set : (mid : List AstNode) (i : ℕ) (n : AstNode) (x : AstNode-F AstNode) → i < length mid → n ≡ get_or mid i n
     → size (forest_of (slice_set mid i (roll-AstNode x))) + (size (shape (out-AstNode n)).children + size (shape (out-AstNode n)).descendants) ≡ size (forest_of mid) + (size (shape x).children + size (shape x).descendants)

@@ -26,11 +26,9 @@ use Rattle.lol_vm.specs.RunRefusals.{StopsFor, allowance_of}
 use Rattle.lol_vm.specs.Views.{selectors}
 use Rattle.lol_vm.specs.declared.events.RunCause.{RunCause}
 use Rattle.lol_vm.specs.declared.events.RunCause.TheVariants.{MemoryLimitExceeded, CounterFull, Memory}
-use Rattle.lol_instructions.specs.declared.tries.Tries.{Tries}
 use Rattle.lol_script.specs.Answering.{Answers, HasRun, IsCauseOf, IsWritten, has_ended, output_for}
 use Rattle.lol_script.specs.Explaining.{Explains, IfExplained, IsNewRun, IsRunThrough, limiter_of}
-use Rattle.lol_script.specs.FieldLists.{tries_shown}
-use Rattle.lol_script.specs.Output.{comma_list, lines_of, shown_answer, tries_field}
+use Rattle.lol_script.specs.Output.{comma_list, lines_of, shown_answer}
 use Rattle.lol_script.specs.Readings.{IsReading}
 use Rattle.lol_script.specs.Scripts.{Output, Script, makes_rows, output_of, pairs_in, reason_lines, run_output, selectors_in, shown_cause, text_for, texts_for, texts_in, with_event}
 use Rattle.lol_script.specs.SelectLines.{KeepsLines}
@@ -207,10 +205,6 @@ pub stops_for : (code : RunCause) (cause : Cause) (event : ℕ) (first : Option 
 stops_for MemoryLimitExceeded cause event first is stops = stops ∙ ap (λ c. Some (event, c)) (sym is)
 stops_for CounterFull cause event first is stops = stops ∙ ap (λ c. Some (event, c)) (sym is)
 stops_for Memory cause event first is stops = absurd is
-
--- the field of the tries
-pub shown_for : (shows code_shows : Bool) (tries : Option Tries) (names attributes : ℕ) → tries_shown tries ≡ tries_field code_shows names attributes → code_shows ≡ shows → tries_shown tries ≡ tries_field shows names attributes
-shown_for shows code_shows tries names attributes is same = is ∙ ap (λ b. tries_field b names attributes) same
 
 -- a tag that is refused ends what is written
 pub refused_ends : (code later : ScriptRun) (s : Script) (run : Answers code s) → has_ended code.answering ≡ false → has_ended later.answering ≡ true → later.shows_tries ≡ code.shows_tries → (event : Event) (cause : Cause)

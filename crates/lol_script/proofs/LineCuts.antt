@@ -79,18 +79,6 @@ found_after old more new shown n found none appended same size is =
 
 -- 2. The next line
 
--- the next line is the last exactly where no LF is found
-pub last_without : (number : ℕ) (bytes : List ℕ) → (next_line number bytes).is_last ≡ true → position is_line_feed bytes ≡ None
-last_without number bytes last = by_offset (position is_line_feed bytes) last
-  where
-    by_offset : (offset : Option ℕ) → (cut_at number bytes offset).is_last ≡ true → offset ≡ None
-    by_offset (Some n) last = cc
-    by_offset None last = refl
-
--- all of a list from a offset on
-pub tail_of : (bytes shown : List ℕ) (n : ℕ) → shown ≡ bytes → take (length shown - n) (drop n shown) ≡ drop n bytes
-tail_of bytes shown n same = take_all (length shown - n) (drop n shown) (let short = length-drop n shown in omega (arith, short)) ∙ ap (drop n) same
-
 -- whatever comes later, the next line is the first, and then come those after it
 pub next_split : (number : ℕ) (bytes later : List ℕ) → ((next_line number bytes).is_last ≡ true → later ≡ [])
     → slice_split is_line_feed (bytes ++ later) ≡ (next_line number bytes).line ∷ later_lines (next_line number bytes) later

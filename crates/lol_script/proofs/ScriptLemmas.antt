@@ -1,7 +1,6 @@
 -- Reading a script, line by line.
-use Rattle.std.proofs.Common.{◌≡◌, ◌≢◌, ℕ, ◌+◌, Bool, List, [], ◌∷◌, ◌++◌, map, take, drop, position, Option, Some, None, Result, Ok, inl, inr, refl, sym, ap, ◌∙◌}
-use Rattle.std.specs.Prelude.{◌==◌}
-use Rattle.std.specs.List.{flat_map, slice_split}
+use Rattle.std.proofs.Common.{◌≡◌, ◌≢◌, ℕ, ◌+◌, List, [], ◌∷◌, ◌++◌, map, Option, Result, Ok, inl, inr, refl, sym, ap, ◌∙◌}
+use Rattle.std.specs.List.{flat_map}
 use Rattle.std.proofs.lemmas.Grind.{flat_map-append}
 use Rattle.std.proofs.lemmas.List.{append-nil, map-append}
 use Rattle.lol_css.specs.Accepting.{accept}
@@ -13,14 +12,10 @@ use Rattle.lol_base.specs.MemberLaws.{contains-append}
 use Rattle.lol_vm.specs.Events.{Event}
 use Rattle.lol_script.specs.Script.{Line, line_at}
 use Rattle.lol_script.specs.Scripts as scripts
-use Rattle.lol_script.specs.Scripts.{Script, and_then, pairs_in, read_lines, texts_in, unless_begun, with_bytes, with_meaning}
+use Rattle.lol_script.specs.Scripts.{Script, pairs_in, texts_in, unless_begun, with_bytes, with_meaning}
 use Rattle.lol_script.specs.SelectLines.{Keeps, KeepsLines, KeptLine, text_accepted, text_read}
 use Rattle.lol_script.specs.declared.select_lines.SelectLines.{SelectLines}
 use Rattle.lol_script.specs.declared.bad_line.BadLine.{BadLine}
-use Rattle.lol_script.specs.Readings.{Stops}
-use Rattle.lol_script.specs.declared.settings.Stop.{Stop}
-use Rattle.lol_script.specs.declared.settings.Stop.TheVariants.{Fault, Bad}
-use Rattle.lol_script.proofs.Fields.{parts_none, parts_some}
 
 -- what a nonempty line says is taken
 pub with_bytes-line : (number : ℕ) (s : Script) (bytes : List ℕ) (said : Option Line) → bytes ≢ [] → said ≡ line_at bytes → with_bytes number s bytes ≡ with_meaning number s said
@@ -62,21 +57,3 @@ lines_more old new lines number id text items read keeps before =
             ∙ (sym (map-append text_accepted (map (λ (l : scripts.SelectLine). l.text) lines) (line.text ∷ [])) ∙ ap (map text_accepted) (sym (map-append (λ (l : scripts.SelectLine). l.text) lines (line ∷ [])))));
       },
     )
-
-abbrev is_line_feed : ℕ → Bool
-is_line_feed b = b == 10
-
-module _ (number : ℕ) (s : Script) (rest : List ℕ) where
-  -- the next line, and then those after it
-  pub line_next : (offset : ℕ) → position is_line_feed rest ≡ Some offset
-      → read_lines number s (slice_split is_line_feed rest) ≡ and_then (with_bytes number s (take offset rest)) (λ t. read_lines (number + 1) t (slice_split is_line_feed (drop (offset + 1) rest)))
-  line_next offset found = ap (read_lines number s) (parts_some is_line_feed rest offset found)
-
-  -- the last line
-  pub line_last : position is_line_feed rest ≡ None → read_lines number s (slice_split is_line_feed rest) ≡ and_then (with_bytes number s rest) (λ t. Ok t)
-  line_last none = ap (read_lines number s) (parts_none is_line_feed rest none)
-
--- a line at which reading stops
-pub stop_then : (stop : Stop) (read : Result Script BadLine) (f : Script → Result Script BadLine) → Stops stop read → Stops stop (and_then read f)
-stop_then (Fault fault) read f h = h
-stop_then (Bad bad) read f h = ap (λ r. and_then r f) h

@@ -34,7 +34,7 @@ use Rattle.lol_script.specs.declared.output.FieldList.{FieldList}
 use Rattle.lol_script.specs.declared.script_run.Answering.{Answering}
 use Rattle.lol_script.specs.declared.script_run.Answering.TheVariants.{Plain, WithReasons, Refused}
 use Rattle.lol_script.specs.declared.script_run.ScriptRun.{ScriptRun}
-use Rattle.lol_script.proofs.AnswerLines.{answered_more, no_reasons, plain_text, refused_ends, refused_stays, stops_for}
+use Rattle.lol_script.proofs.AnswerLines.{answered_more, no_reasons, plain_text, refused_ends, stops_for}
 use Rattle.lol_script.proofs.ListedFields.{text_is}
 use Rattle.lol_script.proofs.Told.{reported, told_answered, told_dropped, undropped}
 
@@ -151,18 +151,6 @@ pushed_from asked old found pushed tries shown kept told has text line fields li
           written = written ∙ (append_assoc old.text.items (shown_as found.fields ++ 10 ∷ []) (lines_of (lines_by x (map reason_shown told)))
               ∙ ap (λ (l : FieldList). old.text.items ++ with_reasons x (shown_as l) told) (sym fields));
         }
-
--- after a refusal a tag changes nothing
-pub stays_ended : (code later : ScriptRun) (s : Script) (event : Event) → Answers code s → later ≡ record code { answering = later.answering }
-    → IsMadeReady false (machine_of code.run) code.answering later.answering → Answers later (with_event s event)
-stays_ended code later s event run kept made = by_answering code.answering refl made
-  where
-    by_answering : (old : Answering) → code.answering ≡ old → IsMadeReady false (machine_of code.run) old later.answering → Answers later (with_event s event)
-    by_answering Plain same made = absurd (true≢false (sym made.0))
-    by_answering (WithReasons x) same made = absurd (true≢false (sym made.0))
-    by_answering Refused same made =
-        let unchanged : later ≡ code = kept ∙ ap (λ (a : Answering). record code { answering = a }) (made.1 ∙ sym same) in
-        subst (λ (r : ScriptRun). Answers r (with_event s event)) (sym unchanged) (refused_stays code s run (ap has_ended same) event)
 
 -- 2. One start tag more
 
