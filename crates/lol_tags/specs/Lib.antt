@@ -1,0 +1,4 @@
+pub mod States
+pub mod Reading
+pub mod Cuts
+pub mod Idling

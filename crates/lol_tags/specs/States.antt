@@ -1,0 +1,264 @@
+-- What a byte does to a state of the tokenizer (HTML Standard, "Tokenization", 13.2.5). Each function has the number of its section.
+--
+-- Only what decides where tags stand is here, so these states are one where the Standard has several:
+-- - Character references (13.2.5.72 to 80) are no states. None holds a space, a quote, `<` or `>` that isn't read again in the state it began in.
+-- - After a quoted value (13.2.5.39), and after a `/` that no `>` follows (13.2.5.40), comes what comes before an attribute's name: the
+--   differences are errors.
+-- - A DOCTYPE is a bogus comment: in each of its states, in quotes too, the first `>` ends it.
+-- - In comments `<` has no states of its own (13.2.5.46 to 49): they make errors alone, and a dash is counted in them as elsewhere.
+-- - RCDATA, RAWTEXT and script data differ in characters, and in what `<!` begins in a script.
+-- NUL is a byte like others, and a carriage return is a space as the line feed is that the Standard makes of it.
+use Rattle.std.specs.Prelude.{ℕ, Bool, true, false, ◌&&◌, ◌||◌, ◌==◌, nat_le, if◌then◌else◌}
+use Rattle.std.specs.Str.{byte}
+use Rattle.lol_tags.specs.declared.state.State.{State}
+use Rattle.lol_tags.specs.declared.state.State.TheVariants.{Data, TagOpen, EndTagOpen, TagName, BeforeAttributeName, AttributeName, AfterAttributeName, BeforeAttributeValue, AttributeValueDoubleQuoted, AttributeValueSingleQuoted, AttributeValueUnquoted, SelfClosingStartTag, BogusComment, MarkupDeclarationOpen, MarkupDash, MarkupBracket, MarkupC, MarkupCd, MarkupCda, MarkupCdat, MarkupCdata, CommentStart, CommentStartDash, Comment, CommentEndDash, CommentEnd, CommentEndBang, CdataSection, CdataSectionBracket, CdataSectionEnd, RawText, RawTextLessThanSign, RawTextEndTagOpen, RawTextEndTagName, ScriptDataEscapeStart, ScriptDataEscapeStartDash, ScriptDataEscaped, ScriptDataEscapedDash, ScriptDataEscapedDashDash, ScriptDataEscapedLessThanSign, ScriptDataEscapedEndTagOpen, ScriptDataEscapedEndTagName, ScriptDataDoubleEscapeStart, ScriptDataDoubleEscaped, ScriptDataDoubleEscapedDash, ScriptDataDoubleEscapedDashDash, ScriptDataDoubleEscapedLessThanSign, ScriptDataDoubleEscapeEnd, Plaintext}
+
+-- tab, line feed, form feed, carriage return, space
+abbrev pub is_space : ℕ → Bool
+is_space b = b == 32 || b == 10 || b == 9 || b == 13 || b == 12
+
+-- an ASCII letter
+abbrev pub is_letter : ℕ → Bool
+is_letter b = (nat_le 97 b && nat_le b 122) || (nat_le 65 b && nat_le b 90)
+
+abbrev pub ends_name : ℕ → Bool
+ends_name b = is_space b || b == byte "/" || b == byte ">"
+
+-- 13.2.5.1, Data
+abbrev pub text : ℕ → State
+text b = if b == byte "<" then TagOpen else Data
+
+-- 13.2.5.41, and all states of a DOCTYPE, 13.2.5.53 to 13.2.5.68
+abbrev pub bogus_comment : ℕ → State
+bogus_comment b = if b == byte ">" then Data else BogusComment
+
+-- 13.2.5.6
+abbrev pub tag_open : ℕ → State
+tag_open b = if is_letter b then TagName else (if b == byte "/" then EndTagOpen else (if b == byte "!" then MarkupDeclarationOpen else (if b == byte "?" then BogusComment else text b)))
+
+-- 13.2.5.7
+abbrev pub end_tag_open : ℕ → State
+end_tag_open b = if is_letter b then TagName else bogus_comment b
+
+-- 13.2.5.8
+abbrev pub tag_name : ℕ → State
+tag_name b = if is_space b then BeforeAttributeName else (if b == byte "/" then SelfClosingStartTag else (if b == byte ">" then Data else TagName))
+
+-- 13.2.5.32, 13.2.5.39 and 13.2.5.40
+abbrev pub before_attribute_name : ℕ → State
+before_attribute_name b = if is_space b then BeforeAttributeName else (if b == byte "/" then SelfClosingStartTag else (if b == byte ">" then Data else AttributeName))
+
+-- 13.2.5.33
+abbrev pub attribute_name : ℕ → State
+attribute_name b = if b == byte "=" then BeforeAttributeValue else (if is_space b then AfterAttributeName else (if b == byte "/" then SelfClosingStartTag else (if b == byte ">" then Data else AttributeName)))
+
+-- 13.2.5.34
+abbrev pub after_attribute_name : ℕ → State
+after_attribute_name b = if b == byte "=" then BeforeAttributeValue else (if is_space b then AfterAttributeName else before_attribute_name b)
+
+-- 13.2.5.35
+abbrev pub before_attribute_value : ℕ → State
+before_attribute_value b = if is_space b then BeforeAttributeValue else (if b == 34 then AttributeValueDoubleQuoted else (if b == 39 then AttributeValueSingleQuoted else (if b == byte ">" then Data else AttributeValueUnquoted)))
+
+-- 13.2.5.36
+abbrev pub double_quoted : ℕ → State
+double_quoted b = if b == 34 then BeforeAttributeName else AttributeValueDoubleQuoted
+
+-- 13.2.5.37
+abbrev pub single_quoted : ℕ → State
+single_quoted b = if b == 39 then BeforeAttributeName else AttributeValueSingleQuoted
+
+-- 13.2.5.38
+abbrev pub unquoted : ℕ → State
+unquoted b = if is_space b then BeforeAttributeName else (if b == byte ">" then Data else AttributeValueUnquoted)
+
+-- 13.2.5.42: a CDATA section is entered where the current node isn't an HTML element
+abbrev pub markup_declaration_open : ℕ → Bool → State
+markup_declaration_open b foreign = if b == byte "-" then MarkupDash else (if foreign && b == byte "[" then MarkupBracket else bogus_comment b)
+
+-- `<!-`
+abbrev pub markup_dash : ℕ → State
+markup_dash b = if b == byte "-" then CommentStart else bogus_comment b
+
+-- a byte of `CDATA[`: `<![` and what follows it is a bogus comment otherwise
+abbrev pub expected : ℕ → State → ℕ → State
+expected wanted next b = if b == wanted then next else bogus_comment b
+
+-- 13.2.5.43
+abbrev pub comment_start : ℕ → State
+comment_start b = if b == byte "-" then CommentStartDash else (if b == byte ">" then Data else Comment)
+
+-- 13.2.5.44
+abbrev pub comment_start_dash : ℕ → State
+comment_start_dash b = if b == byte "-" then CommentEnd else (if b == byte ">" then Data else Comment)
+
+-- 13.2.5.45 to 13.2.5.49
+abbrev pub comment : ℕ → State
+comment b = if b == byte "-" then CommentEndDash else Comment
+
+-- 13.2.5.50
+abbrev pub comment_end_dash : ℕ → State
+comment_end_dash b = if b == byte "-" then CommentEnd else Comment
+
+-- 13.2.5.51
+abbrev pub comment_end : ℕ → State
+comment_end b = if b == byte ">" then Data else (if b == byte "!" then CommentEndBang else (if b == byte "-" then CommentEnd else Comment))
+
+-- 13.2.5.52
+abbrev pub comment_end_bang : ℕ → State
+comment_end_bang b = if b == byte "-" then CommentEndDash else (if b == byte ">" then Data else Comment)
+
+-- 13.2.5.69
+abbrev pub cdata_section : ℕ → State
+cdata_section b = if b == byte "]" then CdataSectionBracket else CdataSection
+
+-- 13.2.5.70
+abbrev pub cdata_section_bracket : ℕ → State
+cdata_section_bracket b = if b == byte "]" then CdataSectionEnd else CdataSection
+
+-- 13.2.5.71
+abbrev pub cdata_section_end : ℕ → State
+cdata_section_end b = if b == byte "]" then CdataSectionEnd else (if b == byte ">" then Data else CdataSection)
+
+-- 13.2.5.2 to 13.2.5.4
+abbrev pub raw_text : ℕ → State
+raw_text b = if b == byte "<" then RawTextLessThanSign else RawText
+
+-- 13.2.5.9, 13.2.5.12 and 13.2.5.15
+abbrev pub raw_text_less_than_sign : ℕ → Bool → State
+raw_text_less_than_sign b is_script = if b == byte "/" then RawTextEndTagOpen else (if is_script && b == byte "!" then ScriptDataEscapeStart else raw_text b)
+
+-- 13.2.5.10, 13.2.5.13 and 13.2.5.16
+abbrev pub raw_text_end_tag_open : ℕ → State
+raw_text_end_tag_open b = if is_letter b then RawTextEndTagName else raw_text b
+
+-- 13.2.5.11, 13.2.5.14 and 13.2.5.17
+abbrev pub raw_text_end_tag_name : ℕ → Bool → State
+raw_text_end_tag_name b named = if is_letter b then RawTextEndTagName else (if named && ends_name b then tag_name b else raw_text b)
+
+-- 13.2.5.18
+abbrev pub escape_start : ℕ → State
+escape_start b = if b == byte "-" then ScriptDataEscapeStartDash else raw_text b
+
+-- 13.2.5.19
+abbrev pub escape_start_dash : ℕ → State
+escape_start_dash b = if b == byte "-" then ScriptDataEscapedDashDash else raw_text b
+
+-- 13.2.5.20
+abbrev pub escaped : ℕ → State
+escaped b = if b == byte "-" then ScriptDataEscapedDash else (if b == byte "<" then ScriptDataEscapedLessThanSign else ScriptDataEscaped)
+
+-- 13.2.5.21
+abbrev pub escaped_dash : ℕ → State
+escaped_dash b = if b == byte "-" then ScriptDataEscapedDashDash else escaped b
+
+-- 13.2.5.22
+abbrev pub escaped_dash_dash : ℕ → State
+escaped_dash_dash b = if b == byte "-" then ScriptDataEscapedDashDash else (if b == byte ">" then RawText else escaped b)
+
+-- 13.2.5.23
+abbrev pub escaped_less_than_sign : ℕ → State
+escaped_less_than_sign b = if b == byte "/" then ScriptDataEscapedEndTagOpen else (if is_letter b then ScriptDataDoubleEscapeStart else escaped b)
+
+-- 13.2.5.24
+abbrev pub escaped_end_tag_open : ℕ → State
+escaped_end_tag_open b = if is_letter b then ScriptDataEscapedEndTagName else escaped b
+
+-- 13.2.5.25
+abbrev pub escaped_end_tag_name : ℕ → Bool → State
+escaped_end_tag_name b named = if is_letter b then ScriptDataEscapedEndTagName else (if named && ends_name b then tag_name b else escaped b)
+
+-- 13.2.5.26
+abbrev pub double_escape_start : ℕ → Bool → State
+double_escape_start b named = if is_letter b then ScriptDataDoubleEscapeStart else (if named && ends_name b then ScriptDataDoubleEscaped else (if ends_name b then ScriptDataEscaped else escaped b))
+
+-- 13.2.5.27
+abbrev pub double_escaped : ℕ → State
+double_escaped b = if b == byte "-" then ScriptDataDoubleEscapedDash else (if b == byte "<" then ScriptDataDoubleEscapedLessThanSign else ScriptDataDoubleEscaped)
+
+-- 13.2.5.28
+abbrev pub double_escaped_dash : ℕ → State
+double_escaped_dash b = if b == byte "-" then ScriptDataDoubleEscapedDashDash else double_escaped b
+
+-- 13.2.5.29
+abbrev pub double_escaped_dash_dash : ℕ → State
+double_escaped_dash_dash b = if b == byte "-" then ScriptDataDoubleEscapedDashDash else (if b == byte ">" then RawText else double_escaped b)
+
+-- 13.2.5.30
+abbrev pub double_escaped_less_than_sign : ℕ → State
+double_escaped_less_than_sign b = if b == byte "/" then ScriptDataDoubleEscapeEnd else double_escaped b
+
+-- 13.2.5.31
+abbrev pub double_escape_end : ℕ → Bool → State
+double_escape_end b named = if is_letter b then ScriptDataDoubleEscapeEnd else (if named && ends_name b then ScriptDataEscaped else (if ends_name b then ScriptDataDoubleEscaped else double_escaped b))
+
+-- The state after a byte. `named` says that the name that is read is the one that ends the text, `is_script` that the text is a script's,
+-- `foreign` that the current node isn't an HTML element.
+unfoldable pub next : State → ℕ → Bool → Bool → Bool → State
+next Data b named is_script foreign = text b
+next TagOpen b named is_script foreign = tag_open b
+next EndTagOpen b named is_script foreign = end_tag_open b
+next TagName b named is_script foreign = tag_name b
+next BeforeAttributeName b named is_script foreign = before_attribute_name b
+next AttributeName b named is_script foreign = attribute_name b
+next AfterAttributeName b named is_script foreign = after_attribute_name b
+next BeforeAttributeValue b named is_script foreign = before_attribute_value b
+next AttributeValueDoubleQuoted b named is_script foreign = double_quoted b
+next AttributeValueSingleQuoted b named is_script foreign = single_quoted b
+next AttributeValueUnquoted b named is_script foreign = unquoted b
+next SelfClosingStartTag b named is_script foreign = before_attribute_name b
+next BogusComment b named is_script foreign = bogus_comment b
+next MarkupDeclarationOpen b named is_script foreign = markup_declaration_open b foreign
+next MarkupDash b named is_script foreign = markup_dash b
+next MarkupBracket b named is_script foreign = expected (byte "C") MarkupC b
+next MarkupC b named is_script foreign = expected (byte "D") MarkupCd b
+next MarkupCd b named is_script foreign = expected (byte "A") MarkupCda b
+next MarkupCda b named is_script foreign = expected (byte "T") MarkupCdat b
+next MarkupCdat b named is_script foreign = expected (byte "A") MarkupCdata b
+next MarkupCdata b named is_script foreign = expected (byte "[") CdataSection b
+next CommentStart b named is_script foreign = comment_start b
+next CommentStartDash b named is_script foreign = comment_start_dash b
+next Comment b named is_script foreign = comment b
+next CommentEndDash b named is_script foreign = comment_end_dash b
+next CommentEnd b named is_script foreign = comment_end b
+next CommentEndBang b named is_script foreign = comment_end_bang b
+next CdataSection b named is_script foreign = cdata_section b
+next CdataSectionBracket b named is_script foreign = cdata_section_bracket b
+next CdataSectionEnd b named is_script foreign = cdata_section_end b
+next RawText b named is_script foreign = raw_text b
+next RawTextLessThanSign b named is_script foreign = raw_text_less_than_sign b is_script
+next RawTextEndTagOpen b named is_script foreign = raw_text_end_tag_open b
+next RawTextEndTagName b named is_script foreign = raw_text_end_tag_name b named
+next ScriptDataEscapeStart b named is_script foreign = escape_start b
+next ScriptDataEscapeStartDash b named is_script foreign = escape_start_dash b
+next ScriptDataEscaped b named is_script foreign = escaped b
+next ScriptDataEscapedDash b named is_script foreign = escaped_dash b
+next ScriptDataEscapedDashDash b named is_script foreign = escaped_dash_dash b
+next ScriptDataEscapedLessThanSign b named is_script foreign = escaped_less_than_sign b
+next ScriptDataEscapedEndTagOpen b named is_script foreign = escaped_end_tag_open b
+next ScriptDataEscapedEndTagName b named is_script foreign = escaped_end_tag_name b named
+next ScriptDataDoubleEscapeStart b named is_script foreign = double_escape_start b named
+next ScriptDataDoubleEscaped b named is_script foreign = double_escaped b
+next ScriptDataDoubleEscapedDash b named is_script foreign = double_escaped_dash b
+next ScriptDataDoubleEscapedDashDash b named is_script foreign = double_escaped_dash_dash b
+next ScriptDataDoubleEscapedLessThanSign b named is_script foreign = double_escaped_less_than_sign b
+next ScriptDataDoubleEscapeEnd b named is_script foreign = double_escape_end b named
+next Plaintext b named is_script foreign = Plaintext
+
+-- whether a `>` ends a tag
+unfoldable pub is_in_tag : State → Bool → Bool
+is_in_tag TagName named = true
+is_in_tag BeforeAttributeName named = true
+is_in_tag AttributeName named = true
+is_in_tag AfterAttributeName named = true
+is_in_tag BeforeAttributeValue named = true
+is_in_tag AttributeValueUnquoted named = true
+is_in_tag SelfClosingStartTag named = true
+is_in_tag RawTextEndTagName named = named
+is_in_tag ScriptDataEscapedEndTagName named = named
+is_in_tag _ named = false
+
+-- whether a tag that ends here closes itself
+unfoldable pub is_self_closing : State → Bool
+is_self_closing SelfClosingStartTag = true
+is_self_closing _ = false
