@@ -1,7 +1,7 @@
 -- Bytes that leave a state as it is only move the place.
 use Rattle.std.proofs.Common.{◌≡◌, ℕ, zero, suc, ◌+◌, List, [], ◌∷◌, Some, None, length, take, refl, sym, ◌∙◌, ap, arith, add-zero}
 use Rattle.std.specs.Prelude.{Bool, true, false, ◌==◌, ◌&&◌}
-use Rattle.lol_tags.specs.States.{next, is_in_tag}
+use Rattle.lol_tags.specs.States.{next, next_in_script, is_in_tag}
 use Rattle.lol_tags.specs.Reading.{script, step, ended, noted, after, tags_from, with_tag}
 use Rattle.memchr.specs.Find.{Nowhere, Passes, is_byte}
 use Rattle.lol_tags.specs.Idling.{stop, Lacks}
@@ -14,7 +14,7 @@ unlike : (b c d : ℕ) → Some d ≡ Some c → (b == c) ≡ false → (b == d)
 unlike b c d e h = let same : d ≡ c = cc in rw same h
 
 idle-next : (s : State) (c b : ℕ) (named is_script foreign : Bool) → stop s ≡ Some c → (b == c) ≡ false → next s b named is_script foreign ≡ s
-unfolding stop next
+unfolding stop next next_in_script
 idle-next Data c b named is_script foreign e h = rw (unlike b c 60 e h) refl
 idle-next RawText c b named is_script foreign e h = rw (unlike b c 60 e h) refl
 idle-next AttributeValueDoubleQuoted c b named is_script foreign e h = rw (unlike b c 34 e h) refl

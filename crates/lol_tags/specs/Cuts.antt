@@ -11,10 +11,6 @@ abbrev pub tags_of_chunks : TagReader → List (List ℕ) → List Tag
 tags_of_chunks r [] = []
 tags_of_chunks r (chunk ∷ chunks) = tags_from r chunk ++ tags_of_chunks (after r chunk) chunks
 
--- They are those of the whole, however it is cut.
-abbrev pub CutsChangeNothing : Type 0
-CutsChangeNothing = (r : TagReader) (chunks : List (List ℕ)) → tags_of_chunks r chunks ≡ tags_from r (concat chunks)
-
 pub after-append : (r : TagReader) (xs ys : List ℕ) → after r (xs ++ ys) ≡ after (after r xs) ys
 after-append r [] ys = refl
 after-append r (x ∷ xs) ys = after-append (step r x) xs ys
@@ -28,7 +24,8 @@ tags_from-append r [] ys = refl
 tags_from-append r (x ∷ xs) ys =
     ap (with_tag (ended r x)) (tags_from-append (step r x) xs ys) ∙ with_tag-append (ended r x) (tags_from (step r x) xs) (tags_from (after (step r x) xs) ys)
 
-pub cuts_change_nothing : CutsChangeNothing
+-- They are those of the whole, however it is cut.
+pub cuts_change_nothing : (r : TagReader) (chunks : List (List ℕ)) → tags_of_chunks r chunks ≡ tags_from r (concat chunks)
 cuts_change_nothing r [] = refl
 cuts_change_nothing r (chunk ∷ chunks) =
     ap (λ tags. tags_from r chunk ++ tags) (cuts_change_nothing (after r chunk) chunks) ∙ sym (tags_from-append r chunk (concat chunks))

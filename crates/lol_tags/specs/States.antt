@@ -192,6 +192,24 @@ double_escaped_less_than_sign b = if b == byte "/" then ScriptDataDoubleEscapeEn
 abbrev pub double_escape_end : ℕ → Bool → State
 double_escape_end b named = if is_letter b then ScriptDataDoubleEscapeEnd else (if named && ends_name b then ScriptDataEscaped else (if ends_name b then ScriptDataDoubleEscaped else double_escaped b))
 
+-- in a script behind `<!`, and in PLAINTEXT (13.2.5.5), which nothing ends
+unfoldable pub next_in_script : State → ℕ → Bool → State
+next_in_script ScriptDataEscapeStart b named = escape_start b
+next_in_script ScriptDataEscapeStartDash b named = escape_start_dash b
+next_in_script ScriptDataEscaped b named = escaped b
+next_in_script ScriptDataEscapedDash b named = escaped_dash b
+next_in_script ScriptDataEscapedDashDash b named = escaped_dash_dash b
+next_in_script ScriptDataEscapedLessThanSign b named = escaped_less_than_sign b
+next_in_script ScriptDataEscapedEndTagOpen b named = escaped_end_tag_open b
+next_in_script ScriptDataEscapedEndTagName b named = escaped_end_tag_name b named
+next_in_script ScriptDataDoubleEscapeStart b named = double_escape_start b named
+next_in_script ScriptDataDoubleEscaped b named = double_escaped b
+next_in_script ScriptDataDoubleEscapedDash b named = double_escaped_dash b
+next_in_script ScriptDataDoubleEscapedDashDash b named = double_escaped_dash_dash b
+next_in_script ScriptDataDoubleEscapedLessThanSign b named = double_escaped_less_than_sign b
+next_in_script ScriptDataDoubleEscapeEnd b named = double_escape_end b named
+next_in_script _ b named = Plaintext
+
 -- The state after a byte. `named` says that the name that is read is the one that ends the text, `is_script` that the text is a script's,
 -- `foreign` that the current node isn't an HTML element.
 unfoldable pub next : State → ℕ → Bool → Bool → Bool → State
@@ -229,21 +247,7 @@ next RawText b named is_script foreign = raw_text b
 next RawTextLessThanSign b named is_script foreign = raw_text_less_than_sign b is_script
 next RawTextEndTagOpen b named is_script foreign = raw_text_end_tag_open b
 next RawTextEndTagName b named is_script foreign = raw_text_end_tag_name b named
-next ScriptDataEscapeStart b named is_script foreign = escape_start b
-next ScriptDataEscapeStartDash b named is_script foreign = escape_start_dash b
-next ScriptDataEscaped b named is_script foreign = escaped b
-next ScriptDataEscapedDash b named is_script foreign = escaped_dash b
-next ScriptDataEscapedDashDash b named is_script foreign = escaped_dash_dash b
-next ScriptDataEscapedLessThanSign b named is_script foreign = escaped_less_than_sign b
-next ScriptDataEscapedEndTagOpen b named is_script foreign = escaped_end_tag_open b
-next ScriptDataEscapedEndTagName b named is_script foreign = escaped_end_tag_name b named
-next ScriptDataDoubleEscapeStart b named is_script foreign = double_escape_start b named
-next ScriptDataDoubleEscaped b named is_script foreign = double_escaped b
-next ScriptDataDoubleEscapedDash b named is_script foreign = double_escaped_dash b
-next ScriptDataDoubleEscapedDashDash b named is_script foreign = double_escaped_dash_dash b
-next ScriptDataDoubleEscapedLessThanSign b named is_script foreign = double_escaped_less_than_sign b
-next ScriptDataDoubleEscapeEnd b named is_script foreign = double_escape_end b named
-next Plaintext b named is_script foreign = Plaintext
+next s b named is_script foreign = next_in_script s b named
 
 -- whether a `>` ends a tag
 unfoldable pub is_in_tag : State → Bool → Bool

@@ -2,7 +2,9 @@
 #![tactic(auto)]
 
 mod error;
+pub mod laws;
 mod reader;
+pub mod rows;
 mod state;
 
 pub use error::{FeedError, StreamTooLong};

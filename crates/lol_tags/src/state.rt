@@ -1,7 +1,7 @@
 //! The states of the tokenizer that decide where tags stand, and what a byte does to each.
 
 ghost use Rattle.std.specs.Prelude.{◌≡◌};
-ghost use Rattle.lol_tags.specs.States.{is_space, is_letter, ends_name, text, bogus_comment, tag_open, end_tag_open, tag_name, before_attribute_name, attribute_name, after_attribute_name, before_attribute_value, double_quoted, single_quoted, unquoted, markup_declaration_open, markup_dash, expected, comment_start, comment_start_dash, comment, comment_end_dash, comment_end, comment_end_bang, cdata_section, cdata_section_bracket, cdata_section_end, raw_text, raw_text_less_than_sign, raw_text_end_tag_open, raw_text_end_tag_name, escape_start, escape_start_dash, escaped, escaped_dash, escaped_dash_dash, escaped_less_than_sign, escaped_end_tag_open, escaped_end_tag_name, double_escape_start, double_escaped, double_escaped_dash, double_escaped_dash_dash, double_escaped_less_than_sign, double_escape_end, next, is_in_tag, is_self_closing};
+ghost use Rattle.lol_tags.specs.States.{is_space, is_letter, ends_name, text, bogus_comment, tag_open, end_tag_open, tag_name, before_attribute_name, attribute_name, after_attribute_name, before_attribute_value, double_quoted, single_quoted, unquoted, markup_declaration_open, markup_dash, expected, comment_start, comment_start_dash, comment, comment_end_dash, comment_end, comment_end_bang, cdata_section, cdata_section_bracket, cdata_section_end, raw_text, raw_text_less_than_sign, raw_text_end_tag_open, raw_text_end_tag_name, escape_start, escape_start_dash, escaped, escaped_dash, escaped_dash_dash, escaped_less_than_sign, escaped_end_tag_open, escaped_end_tag_name, double_escape_start, double_escaped, double_escaped_dash, double_escaped_dash_dash, double_escaped_less_than_sign, double_escape_end, next_in_script, next, is_in_tag, is_self_closing};
 ghost use Rattle.lol_tags.specs.Reading.{may_be_tag};
 ghost use Rattle.lol_tags.specs.Idling.{stop};
 
@@ -655,6 +655,17 @@ impl State {
             State::RawTextLessThanSign => raw_text_less_than_sign(b, is_script),
             State::RawTextEndTagOpen => raw_text_end_tag_open(b),
             State::RawTextEndTagName => raw_text_end_tag_name(b, named),
+            _ => self.next_in_script(b, named),
+        }
+    }
+
+    // The same in a script behind `<!`, and in PLAINTEXT, which nothing ends.
+    #[inline(always)]
+    #[tactic(auto, unfolding(crate::specs::States::next_in_script))]
+    fn next_in_script(self, b: u8, named: bool) -> State
+        ensures { result ≡ next_in_script self b named }
+    {
+        match self {
             State::ScriptDataEscapeStart => escape_start(b),
             State::ScriptDataEscapeStartDash => escape_start_dash(b),
             State::ScriptDataEscaped => escaped(b),
@@ -669,7 +680,7 @@ impl State {
             State::ScriptDataDoubleEscapedDashDash => double_escaped_dash_dash(b),
             State::ScriptDataDoubleEscapedLessThanSign => double_escaped_less_than_sign(b),
             State::ScriptDataDoubleEscapeEnd => double_escape_end(b, named),
-            State::Plaintext => State::Plaintext,
+            _ => State::Plaintext,
         }
     }
 

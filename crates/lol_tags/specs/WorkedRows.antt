@@ -1,0 +1,109 @@
+-- Texts and their tags, worked by hand from the HTML Standard.
+use Rattle.std.specs.Prelude.{ℕ, Bool, true, false, List, [], ◌∷◌, ◌++◌, map, slice_range, codes}
+use Rattle.lol_tags.specs.Reading.{fresh, after, tags_from, told_foreign}
+use Rattle.lol_tags.specs.declared.reader.Tag.{Tag}
+use Rattle.lol_tags.specs.declared.reader.TagReader.{TagReader}
+
+-- a text, and the texts of its tags
+pub record Row : Type 0 where
+  pub text : List ℕ
+  pub tags : List (List ℕ)
+
+abbrev pub has : List ℕ → List (List ℕ) → Row
+has text tags = record { text = text; tags = tags }
+
+abbrev pub tag_texts : TagReader → List ℕ → List (List ℕ)
+tag_texts r bytes = map (λ (tag : Tag). slice_range bytes tag.start tag.end) (tags_from r bytes)
+
+-- what a reader gives for the texts of some rows, and what they say
+abbrev pub given : TagReader → List Row → List (List (List ℕ))
+given r rows = map (λ (row : Row). tag_texts r row.text) rows
+
+abbrev pub said : List Row → List (List (List ℕ))
+said rows = map (λ (row : Row). row.tags) rows
+
+-- tags and what is none, and attributes
+abbrev pub tag_rows : List Row
+tag_rows =
+    has (codes "a<b>c</b >d") (codes "<b>" ∷ codes "</b >" ∷ [])
+    ∷ has (codes "a<b") []
+    ∷ has (codes "<3>a < b>") []
+    ∷ has (codes "<<b>") (codes "<b>" ∷ [])
+    ∷ has (codes "</></ a></3><?x><!x>") []
+    ∷ has (codes "<!DOCTYPE a \"b>c\"><i>") (codes "<i>" ∷ [])
+    ∷ has (codes "<a b=\">\"c='>'d = e\">") (codes "<a b=\">\"c='>'d = e\">" ∷ [])
+    ∷ has (codes "<a/b=c/d>") (codes "<a/b=c/d>" ∷ [])
+    ∷ has (codes "<a =\"b>\">") (codes "<a =\"b>" ∷ [])
+    ∷ has (codes "<a b=>c>") (codes "<a b=>" ∷ [])
+    ∷ has (codes "<a b/=\">\">") (codes "<a b/=\">" ∷ [])
+    ∷ has (codes "<a" ++ 13 ∷ codes "b" ++ 13 ∷ codes "=" ++ 13 ∷ codes "'>'>") ((codes "<a" ++ 13 ∷ codes "b" ++ 13 ∷ codes "=" ++ 13 ∷ codes "'>'>") ∷ [])
+    ∷ has (codes "<a" ++ 0 ∷ codes "b>") ((codes "<a" ++ 0 ∷ codes "b>") ∷ [])
+    ∷ []
+
+-- comments
+abbrev pub comment_rows : List Row
+comment_rows =
+    has (codes "<!--><a><!---><b><!----><i>") (codes "<a>" ∷ codes "<b>" ∷ codes "<i>" ∷ [])
+    ∷ has (codes "<!--a--!><b>") (codes "<b>" ∷ [])
+    ∷ has (codes "<!--!><a>--><b>") (codes "<b>" ∷ [])
+    ∷ has (codes "<!--a--!-><b>-- ><i>--><u>") (codes "<u>" ∷ [])
+    ∷ has (codes "<!--a<!--><b>") (codes "<b>" ∷ [])
+    ∷ has (codes "<!-a--><b>") (codes "<b>" ∷ [])
+    ∷ has (codes "<![CDATA[<a><b>]]><i>") (codes "<b>" ∷ codes "<i>" ∷ [])
+    ∷ []
+
+-- texts of elements
+abbrev pub text_rows : List Row
+text_rows =
+    has (codes "<title><a></titles></TITLE b='>'><i>") (codes "<title>" ∷ codes "</TITLE b='>'>" ∷ codes "<i>" ∷ [])
+    ∷ has (codes "<TextArea></a></textarea/><i>") (codes "<TextArea>" ∷ codes "</textarea/>" ∷ codes "<i>" ∷ [])
+    ∷ has (codes "<style><!--<a></style>--><i>") (codes "<style>" ∷ codes "</style>" ∷ codes "<i>" ∷ [])
+    ∷ has (codes "<xmp></ xmp><</xmp ><i>") (codes "<xmp>" ∷ codes "</xmp >" ∷ codes "<i>" ∷ [])
+    ∷ has (codes "<iframe><a></iframe><i>") (codes "<iframe>" ∷ codes "</iframe>" ∷ codes "<i>" ∷ [])
+    ∷ has (codes "<noembed><a></noembed><i>") (codes "<noembed>" ∷ codes "</noembed>" ∷ codes "<i>" ∷ [])
+    ∷ has (codes "<noframes><a></noframes><i>") (codes "<noframes>" ∷ codes "</noframes>" ∷ codes "<i>" ∷ [])
+    ∷ has (codes "<plaintext></plaintext><i>") (codes "<plaintext>" ∷ [])
+    ∷ []
+
+-- scripts, and what begins like a comment in them
+abbrev pub script_rows : List Row
+script_rows =
+    has (codes "<script><a></script><i>") (codes "<script>" ∷ codes "</script>" ∷ codes "<i>" ∷ [])
+    ∷ has (codes "<script><!--<script></script><a>--></script b>") (codes "<script>" ∷ codes "</script b>" ∷ [])
+    ∷ has (codes "<script><!--<SCRIPT/</script><a></script b>") (codes "<script>" ∷ codes "</script b>" ∷ [])
+    ∷ has (codes "<script><!--<scripts></script b>") (codes "<script>" ∷ codes "</script b>" ∷ [])
+    ∷ has (codes "<script><!--><script></script b>") (codes "<script>" ∷ codes "</script b>" ∷ [])
+    ∷ has (codes "<script><!-<script></script b>") (codes "<script>" ∷ codes "</script b>" ∷ [])
+    ∷ has (codes "<script><!--a-<script>--></script b>") (codes "<script>" ∷ codes "</script b>" ∷ [])
+    ∷ has (codes "<script><!--<script>--!></script><i>") (codes "<script>" ∷ [])
+    ∷ []
+
+-- where scripts run and where they don't
+abbrev pub noscript : List ℕ
+noscript = codes "<noscript><b></noscript>"
+
+abbrev pub with_scripting : List Row
+with_scripting = has noscript (codes "<noscript>" ∷ codes "</noscript>" ∷ []) ∷ []
+
+abbrev pub without_scripting : List Row
+without_scripting = has noscript (codes "<noscript>" ∷ codes "<b>" ∷ codes "</noscript>" ∷ []) ∷ []
+
+-- in an element that is no HTML element
+abbrev pub in_foreign : TagReader
+in_foreign = told_foreign true (fresh false)
+
+abbrev pub foreign_rows : List Row
+foreign_rows =
+    has (codes "<![CDATA[<a>]]]><i>") (codes "<i>" ∷ [])
+    ∷ has (codes "<![CDATA[a]]b>]><a>]]><i>") (codes "<i>" ∷ [])
+    ∷ has (codes "<![CDATA><b><![cdata[<a><i>") (codes "<b>" ∷ codes "<i>" ∷ [])
+    ∷ []
+
+-- `<style>` was read, and the reader told that it is no HTML element
+abbrev pub in_foreign_style : TagReader
+in_foreign_style = told_foreign true (after (fresh false) (codes "<style>"))
+
+-- a tag's places and marks
+abbrev pub tag : ℕ → ℕ → ℕ → Bool → Bool → Tag
+tag start name_end end is_end self_closing =
+    record { start = start; name_end = name_end; end = end; is_end = is_end; self_closing = self_closing }

@@ -1,0 +1,45 @@
+//! Worked rows: what the definitions give for texts of known meaning. Each function is empty: its contract is the rows.
+
+ghost use Rattle.std.specs.Prelude.{◌≡◌, ◌∷◌, [], true, false, codes};
+ghost use Rattle.lol_tags.specs.Reading.{fresh, tags_from, tags_of};
+ghost use Rattle.lol_tags.specs.WorkedRows.{given, said, tag_rows, comment_rows, text_rows, script_rows, with_scripting, without_scripting, in_foreign, foreign_rows, in_foreign_style, tag};
+
+/// Tags, what is no tag, and attributes.
+pub fn tags()
+    ensures { given (fresh false) tag_rows ≡ said tag_rows }
+{}
+
+/// Comments.
+pub fn comments()
+    ensures { given (fresh false) comment_rows ≡ said comment_rows }
+{}
+
+/// Texts of elements that hold no tags.
+pub fn texts()
+    ensures { given (fresh false) text_rows ≡ said text_rows }
+{}
+
+/// Scripts.
+pub fn scripts()
+    ensures { given (fresh false) script_rows ≡ said script_rows }
+{}
+
+/// `noscript`, where scripts run and where they don't.
+pub fn scripting()
+    ensures runs { given (fresh true) with_scripting ≡ said with_scripting }
+    ensures runs_not { given (fresh false) without_scripting ≡ said without_scripting }
+{}
+
+/// CDATA sections, and an element of a foreign namespace whose name is that of an HTML element.
+pub fn foreign_content()
+    ensures sections { given in_foreign foreign_rows ≡ said foreign_rows }
+    ensures texts { tags_from in_foreign_style (codes "<b></style>")
+        ≡ tag 7 9 10 false false ∷ tag 10 17 18 true false ∷ [] }
+{}
+
+/// Places of names, and marks.
+pub fn places()
+    ensures { tags_of false (codes "<Br/></A b><a /b><a b=c/><p / >")
+        ≡ tag 0 3 5 false true ∷ tag 5 8 11 true false ∷ tag 11 13 17 false false
+        ∷ tag 17 19 25 false false ∷ tag 25 27 31 false false ∷ [] }
+{}
