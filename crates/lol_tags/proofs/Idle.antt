@@ -2,7 +2,8 @@
 use Rattle.std.proofs.Common.{◌≡◌, ℕ, zero, suc, ◌+◌, List, [], ◌∷◌, Some, None, length, take, refl, sym, ◌∙◌, ap, arith, add-zero}
 use Rattle.std.specs.Prelude.{Bool, true, false, ◌==◌, ◌&&◌}
 use Rattle.lol_tags.specs.States.{next, next_in_script, is_in_tag}
-use Rattle.lol_tags.specs.Reading.{script, step, ended, noted, after, tags_from, with_tag}
+use Rattle.lol_tags.specs.Runs.{with_some}
+use Rattle.lol_tags.specs.Reading.{script, step, ended, noted, after, tags_from}
 use Rattle.memchr.specs.Find.{Nowhere, Passes, is_byte}
 use Rattle.lol_tags.specs.Idling.{stop, Lacks}
 use Rattle.lol_tags.specs.declared.state.State.{State}
@@ -77,7 +78,7 @@ idle-run r c (b ∷ bytes) e h =
 pub idle-tags : (r : TagReader) (c : ℕ) (bytes : List ℕ) → stop r.state ≡ Some c → Lacks c bytes → tags_from r bytes ≡ []
 idle-tags r c [] e h = refl
 idle-tags r c (b ∷ bytes) e h =
-    ap (λ tag. with_tag tag (tags_from (step r b) bytes)) (idle-ended r c b e)
+    ap (λ tag. with_some tag (tags_from (step r b) bytes)) (idle-ended r c b e)
     ∙ ap (λ s. tags_from s bytes) (idle-step r c b e h.0)
     ∙ idle-tags (record r { at = r.at + 1 }) c bytes e h.1
 

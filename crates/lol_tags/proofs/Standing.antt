@@ -6,7 +6,8 @@ use Rattle.std.proofs.lemmas.List.{get_or_append_left, append-nil}
 use Rattle.std.proofs.Math.Seq.{get_or-append_seam}
 use Rattle.std.specs.Prelude.{Bool, true, false, cond, ◌==◌, ◌&&◌, if◌then◌else◌, slice_get}
 use Rattle.lol_tags.specs.States.{next, next_in_script, is_in_tag}
-use Rattle.lol_tags.specs.Reading.{fresh, step, ended, ends, tag_at, closed, advanced, is_named, is_script, noted, spelled, after, tags_from, with_tag, may_be_tag, text_state, told_foreign}
+use Rattle.lol_tags.specs.Runs.{with_some}
+use Rattle.lol_tags.specs.Reading.{fresh, step, ended, ends, tag_at, closed, advanced, is_named, is_script, noted, spelled, after, tags_from, may_be_tag, text_state, told_foreign}
 use Rattle.lol_tags.specs.Places.{HasRead, needed_from, Stands, StandApart}
 use Rattle.lol_tags.specs.declared.state.State.{State}
 use Rattle.lol_tags.specs.declared.state.State.TheVariants.{Data, TagOpen, RawTextLessThanSign, ScriptDataEscapedLessThanSign, ScriptDataDoubleEscapedLessThanSign, ScriptDataDoubleEscapeEnd}
@@ -206,7 +207,7 @@ tag-stands before bytes r b e h =
 
 stand-at : (before bytes : List ℕ) (r : TagReader) (b : ℕ) (e : Bool) → ends r b ≡ e → HasRead before r
     → StandApart (before ++ b ∷ bytes) (needed_from (if e then closed (advanced r b) else advanced r b)) (tags_from (if e then closed (advanced r b) else advanced r b) bytes)
-    → StandApart (before ++ b ∷ bytes) (needed_from r) (with_tag (if e then Some (tag_at r) else None) (tags_from (if e then closed (advanced r b) else advanced r b) bytes))
+    → StandApart (before ++ b ∷ bytes) (needed_from r) (with_some (if e then Some (tag_at r) else None) (tags_from (if e then closed (advanced r b) else advanced r b) bytes))
 stand-at before bytes r b true e h others =
     let none = ends-none r b e in
     let past : r.at + 1 ≤ needed_from (closed (advanced r b)) = rw none (omega (arith, closed-at (advanced r b))) in

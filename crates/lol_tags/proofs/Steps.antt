@@ -3,57 +3,58 @@ use Rattle.std.proofs.Common.{◌≡◌, ℕ, ◌+◌, ◌<◌, ◌≤◌, List,
 use Rattle.std.proofs.Math.Seq.{take-suc, take-add, take-append_seam}
 use Rattle.std.proofs.lemmas.List.{take_rest}
 use Rattle.std.specs.Option.{is_some}
-use Rattle.lol_tags.specs.Reading.{step, ended, with_tag, after, tags_from}
-use Rattle.lol_tags.specs.Cuts.{after-append, tags_from-append}
-use Rattle.lol_tags.specs.declared.reader.Tag.{Tag}
-use Rattle.lol_tags.specs.declared.reader.TagReader.{TagReader}
+use Rattle.lol_tags.specs.Runs.{with_some, run, given, run-append, given-append}
 
 -- one byte
-pub after-more : (r0 r : TagReader) (s : List ℕ) (i : ℕ) → i < length s → r ≡ after r0 (take i s) → step r (get_or s i 0) ≡ after r0 (take (i + 1) s)
-after-more r0 r s i h e =
-    rw (add-one i, take-suc s i 0 h) (ap (λ x. step x (get_or s i 0)) e ∙ sym (after-append r0 (take i s) (get_or s i 0 ∷ [])))
+pub run-more : {S : Type 0} (step : S → ℕ → S) (r0 r : S) (s : List ℕ) (i : ℕ) → i < length s → r ≡ run step r0 (take i s)
+    → step r (get_or s i 0) ≡ run step r0 (take (i + 1) s)
+run-more step r0 r s i h e =
+    rw (add-one i, take-suc s i 0 h) (ap (λ x. step x (get_or s i 0)) e ∙ sym (run-append step r0 (take i s) (get_or s i 0 ∷ [])))
 
-pub tags-more : (r0 r : TagReader) (s : List ℕ) (i : ℕ) → i < length s → r ≡ after r0 (take i s)
-    → tags_from r0 (take (i + 1) s) ≡ tags_from r0 (take i s) ++ with_tag (ended r (get_or s i 0)) []
-tags-more r0 r s i h e =
-    rw (add-one i, take-suc s i 0 h) (tags_from-append r0 (take i s) (get_or s i 0 ∷ []) ∙ ap (λ x. tags_from r0 (take i s) ++ with_tag (ended x (get_or s i 0)) []) (sym e))
+pub given-more : {S X : Type 0} (step : S → ℕ → S) (gives : S → ℕ → Option X) (r0 r : S) (s : List ℕ) (i : ℕ) → i < length s → r ≡ run step r0 (take i s)
+    → given step gives r0 (take (i + 1) s) ≡ given step gives r0 (take i s) ++ with_some (gives r (get_or s i 0)) []
+given-more step gives r0 r s i h e =
+    rw (add-one i, take-suc s i 0 h)
+    (given-append step gives r0 (take i s) (get_or s i 0 ∷ [])
+    ∙ ap (λ x. given step gives r0 (take i s) ++ with_some (gives x (get_or s i 0)) []) (sym e))
 
 -- The bytes from a place on are read up to another one: `rest` stands as the code has it.
 abbrev pub rest : List ℕ → ℕ → List ℕ
 rest s i = take (length s - i) (drop i s)
 
-pub after-part : (r0 r new : TagReader) (s : List ℕ) (i n : ℕ)
-    → r ≡ after r0 (take i s) → new ≡ after r (take n (rest s i)) → new ≡ after r0 (take (i + n) s)
-after-part r0 r new s i n stands e =
+pub run-part : {S : Type 0} (step : S → ℕ → S) (r0 r new : S) (s : List ℕ) (i n : ℕ)
+    → r ≡ run step r0 (take i s) → new ≡ run step r (take n (rest s i)) → new ≡ run step r0 (take (i + n) s)
+run-part step r0 r new s i n stands e =
     e
-    ∙ ap (λ x. after r (take n x)) (take_rest s i)
-    ∙ ap (λ x. after x (take n (drop i s))) stands
-    ∙ sym (after-append r0 (take i s) (take n (drop i s)))
-    ∙ ap (after r0) (sym (take-add i n s))
+    ∙ ap (λ x. run step r (take n x)) (take_rest s i)
+    ∙ ap (λ x. run step x (take n (drop i s))) stands
+    ∙ sym (run-append step r0 (take i s) (take n (drop i s)))
+    ∙ ap (run step r0) (sym (take-add i n s))
 
-pub tags-part : (r0 r : TagReader) (s : List ℕ) (i n : ℕ) (told last : List Tag)
-    → r ≡ after r0 (take i s) → told ≡ tags_from r0 (take i s) → last ≡ tags_from r (take n (rest s i))
-    → told ++ last ≡ tags_from r0 (take (i + n) s)
-tags-part r0 r s i n told last stands before e =
-    ap (λ tags. tags ++ last) before
-    ∙ ap (λ tags. tags_from r0 (take i s) ++ tags) (e ∙ ap (λ x. tags_from r (take n x)) (take_rest s i) ∙ ap (λ x. tags_from x (take n (drop i s))) stands)
-    ∙ sym (tags_from-append r0 (take i s) (take n (drop i s)))
-    ∙ ap (tags_from r0) (sym (take-add i n s))
+pub given-part : {S X : Type 0} (step : S → ℕ → S) (gives : S → ℕ → Option X) (r0 r : S) (s : List ℕ) (i n : ℕ) (told last : List X)
+    → r ≡ run step r0 (take i s) → told ≡ given step gives r0 (take i s) → last ≡ given step gives r (take n (rest s i))
+    → told ++ last ≡ given step gives r0 (take (i + n) s)
+given-part step gives r0 r s i n told last stands before e =
+    ap (λ xs. xs ++ last) before
+    ∙ ap (λ xs. given step gives r0 (take i s) ++ xs)
+    (e ∙ ap (λ x. given step gives r (take n x)) (take_rest s i) ∙ ap (λ x. given step gives x (take n (drop i s))) stands)
+    ∙ sym (given-append step gives r0 (take i s) (take n (drop i s)))
+    ∙ ap (given step gives r0) (sym (take-add i n s))
 
--- the same behind other tags
-pub tags-behind : (r0 r : TagReader) (s : List ℕ) (i n : ℕ) (before told last : List Tag)
-    → r ≡ after r0 (take i s) → told ≡ before ++ tags_from r0 (take i s) → last ≡ tags_from r (take n (rest s i))
-    → told ++ last ≡ before ++ tags_from r0 (take (i + n) s)
-tags-behind r0 r s i n before told last stands read e =
-    ap (λ tags. tags ++ last) read
-    ∙ append_assoc before (tags_from r0 (take i s)) last
-    ∙ ap (λ tags. before ++ tags) (tags-part r0 r s i n (tags_from r0 (take i s)) last stands refl e)
+-- the same behind others
+pub given-behind : {S X : Type 0} (step : S → ℕ → S) (gives : S → ℕ → Option X) (r0 r : S) (s : List ℕ) (i n : ℕ) (before told last : List X)
+    → r ≡ run step r0 (take i s) → told ≡ before ++ given step gives r0 (take i s) → last ≡ given step gives r (take n (rest s i))
+    → told ++ last ≡ before ++ given step gives r0 (take (i + n) s)
+given-behind step gives r0 r s i n before told last stands read e =
+    ap (λ xs. xs ++ last) read
+    ∙ append_assoc before (given step gives r0 (take i s)) last
+    ∙ ap (λ xs. before ++ xs) (given-part step gives r0 r s i n (given step gives r0 (take i s)) last stands refl e)
 
-pub no-tag : (tag : Option Tag) → false ≡ is_some tag → with_tag tag [] ≡ []
-no-tag None e = refl
-no-tag (Some tag) e = cc
+pub none-given : {X : Type 0} (x : Option X) → false ≡ is_some x → with_some x [] ≡ []
+none-given None e = refl
+none-given (Some x) e = cc
 
-pub begins-with : (before more now : List Tag) → now ≡ before ++ more → take (length before) now ≡ before
+pub begins-with : {X : Type 0} (before more now : List X) → now ≡ before ++ more → take (length before) now ≡ before
 begins-with before more now e = ap (take (length before)) e ∙ take-append_seam before more
 
 pub part-within : (s : List ℕ) (i n : ℕ) → i ≤ length s → n ≤ length (rest s i) → i + n ≤ length s

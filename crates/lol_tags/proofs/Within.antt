@@ -4,7 +4,7 @@ use Rattle.std.specs.Prelude.{true, false, ◌==◌, codes}
 use Rattle.lol_tags.specs.States.{next, next_in_script, is_in_tag}
 use Rattle.lol_tags.specs.Reading.{noted, step, ended, after, tags_from}
 use Rattle.lol_tags.specs.Idling.{stop, Lacks}
-use Rattle.lol_tags.specs.Cuts.{tags_from-append}
+use Rattle.lol_tags.specs.Runs.{given-append}
 use Rattle.lol_tags.proofs.Idle.{idle-run, idle-tags}
 use Rattle.lol_tags.specs.declared.state.State.TheVariants.{Data, CommentStart, Comment, CdataSection}
 use Rattle.lol_tags.specs.declared.reader.Tag.{Tag}
@@ -14,7 +14,7 @@ use Rattle.lol_tags.specs.declared.reader.TagReader.{TagReader}
 behind-idle : (r : TagReader) (c : ℕ) (bytes others : List ℕ) → stop r.state ≡ Some c → Lacks c bytes
     → tags_from r (bytes ++ others) ≡ tags_from (record r { at = r.at + length bytes }) others
 behind-idle r c bytes others e h =
-    tags_from-append r bytes others
+    given-append step ended r bytes others
     ∙ ap (λ (tags : List Tag). tags ++ tags_from (after r bytes) others) (idle-tags r c bytes e h)
     ∙ ap (λ (s : TagReader). tags_from s others) (idle-run r c bytes e h)
 

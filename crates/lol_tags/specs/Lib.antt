@@ -1,5 +1,7 @@
+pub mod Runs
 pub mod States
 pub mod Reading
+pub mod Attributes
 pub mod WorkedRows
 pub mod Cuts
 pub mod Places

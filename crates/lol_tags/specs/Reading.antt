@@ -1,6 +1,7 @@
 -- The tags of a stream of bytes, as places in it.
 use Rattle.std.specs.Prelude.{ℕ, ◌+◌, ◌*◌, ◌%◌, ◌^◌, Bool, true, false, ◌&&◌, ◌||◌, ◌==◌, nat_lt, if◌then◌else◌, List, [], ◌∷◌, fold, Option, Some, None, codes}
 use Rattle.std.specs.Str.{byte}
+use Rattle.lol_tags.specs.Runs.{run, given}
 use Rattle.lol_tags.specs.States.{is_letter, next, is_in_tag, is_self_closing}
 use Rattle.lol_tags.specs.declared.state.State.{State}
 use Rattle.lol_tags.specs.declared.state.State.TheVariants.{Data, TagOpen, EndTagOpen, TagName, BeforeAttributeName, AttributeName, AfterAttributeName, BeforeAttributeValue, AttributeValueDoubleQuoted, AttributeValueSingleQuoted, AttributeValueUnquoted, SelfClosingStartTag, RawText, RawTextLessThanSign, RawTextEndTagOpen, RawTextEndTagName, ScriptDataEscapedLessThanSign, ScriptDataEscapedEndTagOpen, ScriptDataEscapedEndTagName, ScriptDataDoubleEscapeStart, ScriptDataDoubleEscapedLessThanSign, ScriptDataDoubleEscapeEnd, Plaintext}
@@ -101,17 +102,11 @@ fresh scripting = record { state = Data; at = 0; start = 0; name_end = 0; is_end
 
 -- where a reader stands after some bytes
 abbrev pub after : TagReader → List ℕ → TagReader
-after r [] = r
-after r (b ∷ bytes) = after (step r b) bytes
-
-abbrev pub with_tag : Option Tag → List Tag → List Tag
-with_tag None tags = tags
-with_tag (Some tag) tags = tag ∷ tags
+after r bytes = run step r bytes
 
 -- the tags that end in some bytes
 abbrev pub tags_from : TagReader → List ℕ → List Tag
-tags_from r [] = []
-tags_from r (b ∷ bytes) = with_tag (ended r b) (tags_from (step r b) bytes)
+tags_from r bytes = given step ended r bytes
 
 -- The tags of a stream, where each element is an HTML element.
 abbrev pub tags_of : Bool → List ℕ → List Tag

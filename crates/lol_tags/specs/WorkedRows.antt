@@ -16,8 +16,8 @@ abbrev pub tag_texts : TagReader → List ℕ → List (List ℕ)
 tag_texts r bytes = map (λ (tag : Tag). slice_range bytes tag.start tag.end) (tags_from r bytes)
 
 -- what a reader gives for the texts of some rows, and what they say
-abbrev pub given : TagReader → List Row → List (List (List ℕ))
-given r rows = map (λ (row : Row). tag_texts r row.text) rows
+abbrev pub tags_by : TagReader → List Row → List (List (List ℕ))
+tags_by r rows = map (λ (row : Row). tag_texts r row.text) rows
 
 abbrev pub said : List Row → List (List (List ℕ))
 said rows = map (λ (row : Row). row.tags) rows

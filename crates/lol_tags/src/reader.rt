@@ -1,11 +1,13 @@
 //! The reader of tags: a state of the tokenizer, and where the tag stands that is being read.
 
 ghost use Rattle.std.specs.Prelude.{◌≡◌, ◌↔◌, ◌+◌, ◌++◌, ◌<◌, ◌≤◌, ◌^◌, [], length, take, IsErr, IsTrue, IfNone, IfSome, IfOk, OnOk, OnErr};
-ghost use Rattle.lol_tags.specs.Reading.{with_byte, script, has_raw_text, text_state, is_named, is_script, noted, step, ended, closed, fresh, after, tags_from, with_tag, told_foreign, unfinished};
+ghost use Rattle.lol_tags.specs.Runs.{with_some};
+ghost use Rattle.lol_tags.specs.Reading.{with_byte, script, has_raw_text, text_state, is_named, is_script, noted, step, ended, closed, fresh, after, tags_from, told_foreign, unfinished};
 ghost use Rattle.lol_tags.specs.Idling.{Lacks};
 
 use crate::error::{FeedError, StreamTooLong};
-use crate::state::{State, is_letter};
+use crate::state::State;
+use crate::transitions::is_letter;
 use memchr::memchr;
 use std::alloc::AllocError;
 
@@ -168,7 +170,7 @@ impl TagReader {
         ensures refused { OnErr result (self.new ≡ self.old) }
         ensures within { IfOk result (λ read. read.taken ≤ length chunk.now) }
         ensures after { IfOk result (λ read. self.new ≡ after self.old (take read.taken chunk.now)) }
-        ensures tags { IfOk result (λ read. with_tag read.tag [] ≡ tags_from self.old (take read.taken chunk.now)) }
+        ensures tags { IfOk result (λ read. with_some read.tag [] ≡ tags_from self.old (take read.taken chunk.now)) }
         ensures whole { IfOk result (λ read. IfNone read.tag (read.taken ≡ length chunk.now)) }
         ensures last { IfOk result (λ read. IfSome read.tag (λ tag. tag.end ≡ self.new.at)) }
     {
@@ -237,7 +239,7 @@ impl TagReader {
         ensures moved { 0 < length rest.now → 0 < result.taken }
         ensures within { result.taken ≤ length rest.now }
         ensures after { self.new ≡ after self.old (take result.taken rest.now) }
-        ensures tags { with_tag result.tag [] ≡ tags_from self.old (take result.taken rest.now) }
+        ensures tags { with_some result.tag [] ≡ tags_from self.old (take result.taken rest.now) }
         ensures whole { IfNone result.tag (result.taken ≡ length rest.now) }
         ensures last { IfSome result.tag (λ tag. tag.end ≡ self.new.at) }
         ensures at { self.new.at ≡ self.old.at + result.taken }
@@ -267,7 +269,7 @@ impl TagReader {
         ensures moved { 0 < result.taken }
         ensures within { result.taken ≤ length rest.now }
         ensures after { self.new ≡ after self.old (take result.taken rest.now) }
-        ensures tags { with_tag result.tag [] ≡ tags_from self.old (take result.taken rest.now) }
+        ensures tags { with_some result.tag [] ≡ tags_from self.old (take result.taken rest.now) }
         ensures last { IfSome result.tag (λ tag. tag.end ≡ self.new.at) }
         ensures at { self.new.at ≡ self.old.at + result.taken }
     {

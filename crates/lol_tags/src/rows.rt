@@ -2,37 +2,37 @@
 
 ghost use Rattle.std.specs.Prelude.{◌≡◌, ◌∷◌, [], true, false, codes};
 ghost use Rattle.lol_tags.specs.Reading.{fresh, tags_from, tags_of};
-ghost use Rattle.lol_tags.specs.WorkedRows.{given, said, tag_rows, comment_rows, text_rows, script_rows, with_scripting, without_scripting, in_foreign, foreign_rows, in_foreign_style, tag};
+ghost use Rattle.lol_tags.specs.WorkedRows.{tags_by, said, tag_rows, comment_rows, text_rows, script_rows, with_scripting, without_scripting, in_foreign, foreign_rows, in_foreign_style, tag};
 
 /// Tags, what is no tag, and attributes.
 pub fn tags()
-    ensures { given (fresh false) tag_rows ≡ said tag_rows }
+    ensures { tags_by (fresh false) tag_rows ≡ said tag_rows }
 {}
 
 /// Comments.
 pub fn comments()
-    ensures { given (fresh false) comment_rows ≡ said comment_rows }
+    ensures { tags_by (fresh false) comment_rows ≡ said comment_rows }
 {}
 
 /// Texts of elements that hold no tags.
 pub fn texts()
-    ensures { given (fresh false) text_rows ≡ said text_rows }
+    ensures { tags_by (fresh false) text_rows ≡ said text_rows }
 {}
 
 /// Scripts.
 pub fn scripts()
-    ensures { given (fresh false) script_rows ≡ said script_rows }
+    ensures { tags_by (fresh false) script_rows ≡ said script_rows }
 {}
 
 /// `noscript`, where scripts run and where they don't.
 pub fn scripting()
-    ensures runs { given (fresh true) with_scripting ≡ said with_scripting }
-    ensures runs_not { given (fresh false) without_scripting ≡ said without_scripting }
+    ensures runs { tags_by (fresh true) with_scripting ≡ said with_scripting }
+    ensures runs_not { tags_by (fresh false) without_scripting ≡ said without_scripting }
 {}
 
 /// CDATA sections, and an element of a foreign namespace whose name is that of an HTML element.
 pub fn foreign_content()
-    ensures sections { given in_foreign foreign_rows ≡ said foreign_rows }
+    ensures sections { tags_by in_foreign foreign_rows ≡ said foreign_rows }
     ensures texts { tags_from in_foreign_style (codes "<b></style>")
         ≡ tag 7 9 10 false false ∷ tag 10 17 18 true false ∷ [] }
 {}

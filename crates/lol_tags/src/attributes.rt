@@ -1,0 +1,221 @@
+//! The attributes of a tag, found when they are asked for.
+
+ghost use Rattle.std.specs.Prelude.{◌≡◌, ◌+◌, ◌++◌, ◌<◌, ◌^◌, length, take, All, OnOk, OnErr};
+ghost use Rattle.lol_base.specs.StartTags.{OutlineIsInside};
+ghost use Rattle.lol_tags.specs.Runs.{given};
+ghost use Rattle.lol_tags.specs.Attributes.{is_attribute_name, is_in_attribute, is_quoted, is_value, begins, completes, behind_name, noted_attribute, outline_at, attribute_step, attribute_ended, outlines_of};
+
+use crate::state::State;
+use lol_base::{AttributeBuffer, AttributeOutline, Range};
+use std::alloc::AllocError;
+
+// Where an attribute stands that is being read, by places in its tag.
+#[derive(Drop)]
+struct AttributeReader {
+    state: State,
+    at: usize,
+    name_start: usize,
+    name_end: usize,
+    value_start: usize,
+}
+
+/// Adds the outlines of a tag's attributes behind the others, in the order of the input: of a whole tag's own bytes, from `<` to `>`, whose
+/// name ends at `name_end`. The ranges are places in these bytes. An attribute whose value isn't written has the empty value, at its name's
+/// end; `raw_range` reaches from its name to behind its value, with the quote that ends it. It takes one step for each byte.
+///
+/// # Errors
+/// Out of memory. Then the outlines are as before.
+pub fn push_outlines(
+    tag: &[u8],
+    name_end: usize,
+    outlines: &mut AttributeBuffer,
+) -> Result<(), AllocError>
+    ensures outlines { OnOk result (outlines.new.items ≡ outlines.old.items ++ outlines_of tag.now name_end) }
+    ensures refused { OnErr result (outlines.new.items ≡ outlines.old.items) }
+{
+    if name_end > tag.len() {
+        return Ok(());
+    }
+    let count = outlines.len();
+    let pushed = push_found(AttributeReader::new(name_end), &tag[name_end..], outlines);
+    if pushed.is_err() {
+        outlines.truncate(count);
+    }
+    pushed
+}
+
+fn push_found(
+    mut reader: AttributeReader,
+    rest: &[u8],
+    outlines: &mut AttributeBuffer,
+) -> Result<(), AllocError>
+    requires { reader.at + length rest.now < 2 ^ 64 }
+    ensures outlines { OnOk result (outlines.new.items ≡ outlines.old.items ++ given attribute_step attribute_ended reader rest.now) }
+    ensures kept { take (length outlines.old.items) outlines.new.items ≡ outlines.old.items }
+{
+    for b in rest {
+        if let Some(outline) = reader.step(*b) {
+            outlines.push(outline)?;
+        }
+    }
+    Ok(())
+}
+
+impl AttributeReader {
+    // At the end of a tag's name.
+    fn new(name_end: usize) -> Self
+        ensures { result ≡ behind_name name_end }
+    {
+        AttributeReader {
+            state: State::TagName,
+            at: name_end,
+            name_start: name_end,
+            name_end,
+            value_start: name_end,
+        }
+    }
+
+    // One byte: the attribute that it ends, if it ends one.
+    #[inline(always)]
+    #[tactic(auto, unfolding(crate::specs::Attributes::attribute_step, crate::specs::Attributes::attribute_ended))]
+    fn step(&mut self, b: u8) -> Option<AttributeOutline>
+        requires { self.old.at + 1 < 2 ^ 64 }
+        ensures after { self.new ≡ attribute_step self.old b }
+        ensures outline { result ≡ attribute_ended self.old b }
+        ensures at { self.new.at ≡ self.old.at + 1 }
+    {
+        let next = self.state.next(b, false, false, false);
+        let found = if completes(self.state, next) {
+            Some(self.outline())
+        } else {
+            None
+        };
+        self.note(next);
+        found
+    }
+
+    // The attribute that the next byte ends.
+    #[inline(always)]
+    fn outline(&self) -> AttributeOutline
+        requires { self.now.at + 1 < 2 ^ 64 }
+        ensures { result ≡ outline_at self.now }
+    {
+        let value = if is_value(self.state) {
+            Range {
+                start: self.value_start,
+                end: self.at,
+            }
+        } else {
+            Range {
+                start: self.name_end,
+                end: self.name_end,
+            }
+        };
+        let end = if is_quoted(self.state) {
+            self.at + 1
+        } else {
+            value.end
+        };
+        AttributeOutline {
+            name: Range {
+                start: self.name_start,
+                end: self.name_end,
+            },
+            value: Some(value),
+            raw_range: Range {
+                start: self.name_start,
+                end,
+            },
+        }
+    }
+
+    // Notes a byte that leads to a state.
+    #[inline(always)]
+    fn note(&mut self, next: State)
+        requires { self.old.at + 1 < 2 ^ 64 }
+        ensures now { self.new ≡ noted_attribute next self.old }
+        ensures at { self.new.at ≡ self.old.at + 1 }
+    {
+        let past = self.at + 1;
+        if begins(self.state, next) {
+            self.name_start = self.at;
+        }
+        if is_attribute_name(next) {
+            self.name_end = past;
+        }
+        if !is_value(self.state) {
+            self.value_start = if is_quoted(next) { past } else { self.at };
+        }
+        self.state = next;
+        self.at = past;
+    }
+}
+
+// Whether a byte that leads from a state to another one is the first of an attribute's name.
+#[inline(always)]
+fn begins(from: State, to: State) -> bool
+    ensures { result ≡ begins from to }
+{
+    is_attribute_name(to) && !is_attribute_name(from)
+}
+
+// Whether the attribute that is read is whole before such a byte.
+#[inline(always)]
+fn completes(from: State, to: State) -> bool
+    ensures { result ≡ completes from to }
+{
+    is_in_attribute(from) && (begins(from, to) || !is_in_attribute(to))
+}
+
+#[inline(always)]
+#[tactic(auto, unfolding(crate::specs::Attributes::is_attribute_name))]
+fn is_attribute_name(state: State) -> bool
+    ensures { result ≡ is_attribute_name state }
+{
+    match state {
+        State::AttributeName => true,
+        _ => false,
+    }
+}
+
+#[inline(always)]
+#[tactic(auto, unfolding(crate::specs::Attributes::is_quoted))]
+fn is_quoted(state: State) -> bool
+    ensures { result ≡ is_quoted state }
+{
+    match state {
+        State::AttributeValueDoubleQuoted => true,
+        State::AttributeValueSingleQuoted => true,
+        _ => false,
+    }
+}
+
+#[inline(always)]
+#[tactic(auto, unfolding(crate::specs::Attributes::is_value))]
+fn is_value(state: State) -> bool
+    ensures { result ≡ is_value state }
+{
+    match state {
+        State::AttributeValueDoubleQuoted => true,
+        State::AttributeValueSingleQuoted => true,
+        State::AttributeValueUnquoted => true,
+        _ => false,
+    }
+}
+
+// Whether a state is in an attribute that isn't whole yet.
+#[inline(always)]
+#[tactic(auto, unfolding(crate::specs::Attributes::is_in_attribute))]
+fn is_in_attribute(state: State) -> bool
+    ensures { result ≡ is_in_attribute state }
+{
+    match state {
+        State::AttributeName => true,
+        State::AfterAttributeName => true,
+        State::BeforeAttributeValue => true,
+        State::AttributeValueDoubleQuoted => true,
+        State::AttributeValueSingleQuoted => true,
+        State::AttributeValueUnquoted => true,
+        _ => false,
+    }
+}
