@@ -1,5 +1,8 @@
 -- Texts and their tags, worked by hand from the HTML Standard.
-use Rattle.std.specs.Prelude.{ℕ, Bool, true, false, List, [], ◌∷◌, ◌++◌, map, slice_range, codes}
+use Rattle.std.specs.Prelude.{ℕ, Bool, true, false, List, [], ◌∷◌, ◌++◌, Some, map, slice_range, codes}
+use Rattle.lol_base.specs.StartTags.{Attribute}
+use Rattle.lol_base.specs.declared.start_tag.AttributeOutline.{AttributeOutline}
+use Rattle.lol_tags.specs.Attributes.{range}
 use Rattle.lol_tags.specs.Reading.{fresh, after, tags_from, told_foreign}
 use Rattle.lol_tags.specs.declared.reader.Tag.{Tag}
 use Rattle.lol_tags.specs.declared.reader.TagReader.{TagReader}
@@ -107,3 +110,35 @@ in_foreign_style = told_foreign true (after (fresh false) (codes "<style>"))
 abbrev pub tag : ℕ → ℕ → ℕ → Bool → Bool → Tag
 tag start name_end end is_end self_closing =
     record { start = start; name_end = name_end; end = end; is_end = is_end; self_closing = self_closing }
+
+-- a tag, where its name ends, and its attributes
+pub record AttributeRow : Type 0 where
+  pub tag : List ℕ
+  pub name_end : ℕ
+  pub attributes : List Attribute
+
+abbrev pub has_attributes : List ℕ → ℕ → List Attribute → AttributeRow
+has_attributes tag name_end attributes = record { tag = tag; name_end = name_end; attributes = attributes }
+
+abbrev pub valued : List ℕ → List ℕ → Attribute
+valued name value = record { name = name; value = Some value }
+
+abbrev pub attribute_rows : List AttributeRow
+attribute_rows =
+    has_attributes (codes "<a>") 2 []
+    ∷ has_attributes (codes "<a b/>") 2 (valued (codes "b") [] ∷ [])
+    ∷ has_attributes (codes "<a b=c/ d>") 2 (valued (codes "b") (codes "c/") ∷ valued (codes "d") [] ∷ [])
+    ∷ has_attributes (codes "<a/b=/c>") 2 (valued (codes "b") (codes "/c") ∷ [])
+    ∷ has_attributes (codes "<a/b/c=\"\">") 2 (valued (codes "b") [] ∷ valued (codes "c") [] ∷ [])
+    ∷ has_attributes (codes "<a B = 'x>\"'c=\"y'>\"d>") 2 (valued (codes "B") (codes "x>\"") ∷ valued (codes "c") (codes "y'>") ∷ valued (codes "d") [] ∷ [])
+    ∷ has_attributes (codes "<a =\"y\">") 2 (valued (codes "=\"y\"") [] ∷ [])
+    ∷ has_attributes (codes "<a ==x =y>") 2 (valued (codes "=") (codes "x") ∷ valued (codes "=y") [] ∷ [])
+    ∷ has_attributes (codes "<a b c = d e= >") 2 (valued (codes "b") [] ∷ valued (codes "c") (codes "d") ∷ valued (codes "e") [] ∷ [])
+    ∷ has_attributes (codes "<a b=x\"y b='z'>") 2 (valued (codes "b") (codes "x\"y") ∷ valued (codes "b") (codes "z") ∷ [])
+    ∷ has_attributes (codes "</a b='c'/>") 3 (valued (codes "b") (codes "c") ∷ [])
+    ∷ []
+
+-- an attribute's name, its value, and the whole of it
+abbrev pub outline : ℕ → ℕ → ℕ → ℕ → ℕ → AttributeOutline
+outline name_start name_end value_start value_end end =
+    record { name = range name_start name_end; value = Some (range value_start value_end); raw_range = range name_start end }

@@ -31,6 +31,7 @@ pub fn push_outlines(
     outlines: &mut AttributeBuffer,
 ) -> Result<(), AllocError>
     ensures outlines { OnOk result (outlines.new.items ≡ outlines.old.items ++ outlines_of tag.now name_end) }
+    ensures inside { OnOk result (All (OutlineIsInside tag.now) outlines.old.items → All (OutlineIsInside tag.now) outlines.new.items) }
     ensures refused { OnErr result (outlines.new.items ≡ outlines.old.items) }
 {
     if name_end > tag.len() {

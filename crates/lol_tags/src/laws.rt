@@ -1,8 +1,10 @@
 //! What holds of the tags of all streams: each function takes and gives nothing, and its contract is the law.
 
-ghost use Rattle.std.specs.Prelude.{◌≡◌, ◌+◌, ◌++◌, ◌∷◌, [], ℕ, Bool, true, false, ◌==◌, List, Some, length, codes};
+ghost use Rattle.std.specs.Prelude.{◌≡◌, ◌+◌, ◌++◌, ◌∷◌, [], ℕ, Bool, true, false, ◌==◌, List, Some, length, codes, All};
 ghost use Rattle.std.specs.Str.{byte};
 ghost use Rattle.std.specs.List.{concat};
+ghost use Rattle.lol_base.specs.StartTags.{IsInside, OutlineIsInside};
+ghost use Rattle.lol_tags.specs.Attributes.{outlines_of};
 ghost use Rattle.lol_tags.specs.Reading.{fresh, after, tags_from, tags_of, told_foreign};
 ghost use Rattle.lol_tags.specs.Cuts.{tags_of_chunks};
 ghost use Rattle.lol_tags.specs.Places.{HasRead, needed_from, StandApart};
@@ -49,4 +51,10 @@ pub fn comments_have_no_tags()
 pub fn cdata_sections_have_no_tags()
     ensures { (r : TagReader) (bytes : List ℕ) → r.state ≡ Data → r.foreign ≡ true → Lacks (byte "]") bytes
         → tags_from r (codes "<![CDATA[" ++ (bytes ++ codes "]]>")) ≡ [] }
+{}
+
+/// The attributes of a tag stand inside it: each name and value, and each whole attribute.
+pub fn attributes_stand_inside()
+    ensures parts { (tag : List ℕ) (name_end : ℕ) → All (OutlineIsInside tag) (outlines_of tag name_end) }
+    ensures whole { (tag : List ℕ) (name_end : ℕ) → All (λ outline. IsInside tag outline.raw_range) (outlines_of tag name_end) }
 {}
