@@ -23,7 +23,10 @@ fn expect_tags(rt: &impl Abort, text: &[u8], tags: &mut Vec<Tag>) -> Result<(), 
     assert_eq!(rt; reader.feed(text, tags), Ok(()));
     assert_eq!(rt; tags.len(), MANY);
     assert_eq!(rt; reader.place(), text.len() as u64);
-    assert_eq!(rt; reader.unfinished(), Some(text.len() as u64 - 1));
+    assert_eq!(rt;
+        reader.unfinished(),
+        Some(text.len().saturating_sub(1) as u64)
+    );
     Ok(())
 }
 

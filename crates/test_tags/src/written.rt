@@ -1,5 +1,7 @@
 //! Tags as texts, for tests to compare. A tag or an attribute that is read twice, or not at all, is seen here.
 
+ghost use Rattle.std.specs.Prelude.{◌<◌};
+
 use lol_base::{AttributeBuffer, AttributeOutline, Range};
 use lol_tags::{FeedError, Tag, TagReader, push_outlines};
 use std::alloc::{AllocError, Global};
