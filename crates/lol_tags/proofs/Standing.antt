@@ -1,16 +1,16 @@
 -- Why tags stand apart, and each from a `<` to behind a `>`.
-use Rattle.std.proofs.Common.{◌≡◌, ℕ, ◌+◌, ◌-◌, ◌≤◌, ◌<◌, List, [], ◌∷◌, ◌++◌, Some, None, length, refl, sym, ◌∙◌, ap, subst, arith, append_assoc, length-append}
+use Rattle.std.proofs.Common.{◌≡◌, ℕ, ◌+◌, ◌-◌, ◌≤◌, ◌<◌, List, [], ◌∷◌, ◌++◌, Some, None, ◌⊎◌, inl, inr, length, refl, sym, ◌∙◌, ap, subst, arith, append_assoc, length-append}
 use Rattle.std.proofs.lemmas.Bool.{eqb-true}
 use Rattle.std.proofs.lemmas.Option.{slice_get_within, slice_get-get_or, get_or_from_slice_get}
 use Rattle.std.proofs.lemmas.List.{get_or_append_left, append-nil}
 use Rattle.std.proofs.Math.Seq.{get_or-append_seam}
-use Rattle.std.specs.Prelude.{Bool, true, false, cond, ◌==◌, ◌&&◌, if◌then◌else◌, slice_get}
+use Rattle.std.specs.Prelude.{Bool, true, false, cond, ◌==◌, ◌&&◌, ◌||◌, not, if◌then◌else◌, slice_get}
 use Rattle.lol_tags.specs.States.{next, next_in_script, is_in_tag}
 use Rattle.lol_tags.specs.Runs.{with_some}
 use Rattle.lol_tags.specs.Reading.{fresh, step, ended, ends, tag_at, closed, advanced, is_named, is_script, noted, spelled, after, tags_from, may_be_tag, text_state, told_foreign}
-use Rattle.lol_tags.specs.Places.{HasRead, needed_from, Stands, StandApart}
+use Rattle.lol_tags.specs.Places.{is_at_start, is_at_slash, has_name, name_start, HasRead, needed_from, Stands, StandApart}
 use Rattle.lol_tags.specs.declared.state.State.{State}
-use Rattle.lol_tags.specs.declared.state.State.TheVariants.{Data, TagOpen, RawTextLessThanSign, ScriptDataEscapedLessThanSign, ScriptDataDoubleEscapedLessThanSign, ScriptDataDoubleEscapeEnd}
+use Rattle.lol_tags.specs.declared.state.State.TheVariants.{Data, TagOpen, RawTextLessThanSign, ScriptDataEscapedLessThanSign, ScriptDataDoubleEscapedLessThanSign, ScriptDataDoubleEscapeEnd, TagName, RawTextEndTagName, ScriptDataEscapedEndTagName, EndTagOpen, RawTextEndTagOpen, ScriptDataEscapedEndTagOpen}
 use Rattle.lol_tags.specs.declared.reader.Tag.{Tag}
 use Rattle.lol_tags.specs.declared.reader.TagReader.{TagReader}
 
@@ -92,6 +92,101 @@ text-none : (code : ℕ) (scripting : Bool) → may_be_tag (text_state code scri
 unfolding may_be_tag
 text-none code scripting = search (either-none)
 
+and_left : (a b : Bool) → (a && b) ≡ true → a ≡ true
+and_left true b e = refl
+and_left false b e = cc
+
+and_right : (a b : Bool) → (a && b) ≡ true → b ≡ true
+and_right true b e = e
+and_right false b e = cc
+
+or_cases : (a b : Bool) → (a || b) ≡ true → (a ≡ true) ⊎ (b ≡ true)
+or_cases true b e = inl refl
+or_cases false b e = inr e
+
+-- the states of a tag's name
+unfoldable spells : State → Bool
+spells TagName = true
+spells RawTextEndTagName = true
+spells ScriptDataEscapedEndTagName = true
+spells _ = false
+
+-- A byte leads behind `</` from `<` alone, and into a name from there or from inside it.
+unfoldable fits-slash : State → State → Bool
+fits-slash from to = cond (is_at_slash to) (is_at_start from) true
+
+unfoldable fits-name : State → State → Bool
+fits-name from to = cond (has_name to) (has_name from || (spells to && (is_at_start from || is_at_slash from))) true
+
+either-slash : (from : State) (c : Bool) (x y : State) → fits-slash from x ≡ true → fits-slash from y ≡ true → fits-slash from (if c then x else y) ≡ true
+either-slash from true x y p q = p
+either-slash from false x y p q = q
+
+either-name : (from : State) (c : Bool) (x y : State) → fits-name from x ≡ true → fits-name from y ≡ true → fits-name from (if c then x else y) ≡ true
+either-name from true x y p q = p
+either-name from false x y p q = q
+
+next-slash : (s : State) (b : ℕ) (named is_script foreign : Bool) → fits-slash s (next s b named is_script foreign) ≡ true
+unfolding next next_in_script is_at_start is_at_slash fits-slash
+next-slash Data b named is_script foreign = search either-slash
+next-slash _ b named is_script foreign = search either-slash
+
+next-name : (s : State) (b : ℕ) (named is_script foreign : Bool) → fits-name s (next s b named is_script foreign) ≡ true
+unfolding next next_in_script may_be_tag is_at_start is_at_slash spells fits-name
+next-name Data b named is_script foreign = search either-name
+next-name _ b named is_script foreign = search either-name
+
+slash-before : (from to : State) → fits-slash from to ≡ true → is_at_slash to ≡ true → is_at_start from ≡ true
+unfolding fits-slash
+slash-before from to h e = rw e at h
+
+name-before : (from to : State) → fits-name from to ≡ true → has_name to ≡ true
+    → (has_name from || (spells to && (is_at_start from || is_at_slash from))) ≡ true
+unfolding fits-name
+name-before from to h e = rw e at h
+
+-- what is noted at these states
+noted-start : (s : State) (r : TagReader) (b : ℕ) → is_at_start s ≡ true → ((noted s r b).start ≡ r.at) × ((noted s r b).is_end ≡ false)
+unfolding is_at_start noted
+noted-start TagOpen r b e = (refl, refl)
+noted-start RawTextLessThanSign r b e = (refl, refl)
+noted-start ScriptDataEscapedLessThanSign r b e = (refl, refl)
+noted-start _ r b e = absurd (cc)
+
+noted-slash : (s : State) (r : TagReader) (b : ℕ) → is_at_slash s ≡ true → noted s r b ≡ record r { is_end = true }
+unfolding is_at_slash noted
+noted-slash EndTagOpen r b e = refl
+noted-slash RawTextEndTagOpen r b e = refl
+noted-slash ScriptDataEscapedEndTagOpen r b e = refl
+noted-slash _ r b e = cc
+
+noted-name : (s : State) (r : TagReader) (b : ℕ) → spells s ≡ true → noted s r b ≡ spelled r b
+unfolding spells noted
+noted-name TagName r b e = refl
+noted-name RawTextEndTagName r b e = refl
+noted-name ScriptDataEscapedEndTagName r b e = refl
+noted-name _ r b e = cc
+
+noted-nothing : (s : State) (r : TagReader) (b : ℕ) → has_name s ≡ true → spells s ≡ false → noted s r b ≡ r
+unfolding may_be_tag is_at_start is_at_slash spells noted
+noted-nothing Data r b e f = cc
+noted-nothing _ r b e f = search (e, f)
+
+in-tag-named : (s : State) (named : Bool) → is_in_tag s named ≡ true → has_name s ≡ true
+unfolding is_in_tag may_be_tag is_at_start is_at_slash
+in-tag-named Data named e = cc
+in-tag-named _ named e = search e
+
+start-is-open : (s : State) → is_at_start s ≡ true → may_be_tag s ≡ true
+unfolding is_at_start may_be_tag
+start-is-open Data e = cc
+start-is-open _ e = search e
+
+slash-is-open : (s : State) → is_at_slash s ≡ true → may_be_tag s ≡ true
+unfolding is_at_slash may_be_tag
+slash-is-open Data e = cc
+slash-is-open _ e = search e
+
 -- 2. What has been read
 
 get-left : (xs ys : List ℕ) (i x : ℕ) → slice_get xs i ≡ Some x → slice_get (xs ++ ys) i ≡ Some x
@@ -118,11 +213,58 @@ kept-open : (before : List ℕ) (r : TagReader) (b : ℕ) (s : State) → HasRea
     → slice_get (before ++ b ∷ []) (noted s r b).start ≡ Some 60
 kept-open before r b s h f m = kept-open-at before r b s (opens s) refl h f m
 
+-- a byte of a name, or behind it
+spelled-named : (r : TagReader) (bytes : List ℕ) → HasRead bytes r → (has_name r.state ≡ true) ⊎ (is_at_start r.state ≡ true) ⊎ (is_at_slash r.state ≡ true)
+    → name_start r.start r.is_end < r.at + 1
+spelled-named r bytes h (inl e) = omega (arith, (h.named e).0, (h.named e).1)
+spelled-named r bytes h (inr (inl e)) = rw (h.at_start e).1 (omega (arith, (h.at_start e).0))
+spelled-named r bytes h (inr (inr e)) = rw (h.at_slash e).1 (omega (arith, (h.at_slash e).0))
+
+Named : TagReader → ℕ → Type 0
+Named r at = (name_start r.start r.is_end < r.name_end) × (r.name_end ≤ at)
+
+advanced-named : (before : List ℕ) (r : TagReader) (b : ℕ) (s : State) (o : Bool) → spells s ≡ o → HasRead before r → fits-name r.state s ≡ true → has_name s ≡ true
+    → Named (noted s r b) (r.at + 1)
+unfolding Named
+advanced-named before r b s true o h f e =
+    let from = or_cases (has_name r.state) (spells s && (is_at_start r.state || is_at_slash r.state)) (name-before r.state s f e) in
+    let low = spelled-named r before h (elim from [
+        inl x ↦ inl x
+      | inr x ↦ inr (or_cases (is_at_start r.state) (is_at_slash r.state) (and_right (spells s) (is_at_start r.state || is_at_slash r.state) x))
+    ]) in
+    subst (λ (q : TagReader). Named q (r.at + 1)) (sym (noted-name s r b o)) (low, omega arith)
+advanced-named before r b s false o h f e =
+    let from = or_cases (has_name r.state) (spells s && (is_at_start r.state || is_at_slash r.state)) (name-before r.state s f e) in
+    let was : has_name r.state ≡ true = elim from [ inl x ↦ x | inr x ↦ absurd (let y = and_left (spells s) (is_at_start r.state || is_at_slash r.state) x in cc) ] in
+    subst (λ (q : TagReader). Named q (r.at + 1)) (sym (noted-nothing s r b e o)) ((h.named was).0, omega (arith, (h.named was).1))
+
+advanced-slash : (before : List ℕ) (r : TagReader) (b : ℕ) (s : State) → HasRead before r → fits-slash r.state s ≡ true → is_at_slash s ≡ true
+    → (r.at + 1 ≡ (noted s r b).start + 2) × ((noted s r b).is_end ≡ true)
+advanced-slash before r b s h f e =
+    let was = h.at_start (slash-before r.state s f e) in
+    let P : TagReader → Type 0 = λ q. (r.at + 1 ≡ q.start + 2) × (q.is_end ≡ true) in
+    subst P (sym (noted-slash s r b e)) (omega (arith, was.0), refl)
+
 read-advanced : (before : List ℕ) (r : TagReader) (b : ℕ) → HasRead before r → HasRead (before ++ b ∷ []) (advanced r b)
-read-advanced before r b h = record {
-  at = omega (arith, h.at, length-append before (b ∷ []));
-  opened = λ m. kept-open before r b (next r.state b (is_named r) (is_script r) r.foreign) h
-      (next-fits r.state b (is_named r) (is_script r) r.foreign) m;
+unfolding Named
+read-advanced before r b h =
+    let s = next r.state b (is_named r) (is_script r) r.foreign in
+    record {
+      at = omega (arith, h.at, length-append before (b ∷ []));
+      opened = λ m. kept-open before r b s h (next-fits r.state b (is_named r) (is_script r) r.foreign) m;
+      at_start = λ e. (omega (arith, (noted-start s r b e).0), (noted-start s r b e).1);
+      at_slash = λ e. advanced-slash before r b s h (next-slash r.state b (is_named r) (is_script r) r.foreign) e;
+      named = λ e. advanced-named before r b s (spells s) refl h (next-name r.state b (is_named r) (is_script r) r.foreign) e;
+    }
+
+-- Where no tag is open nothing is said of one.
+read-none : (bytes : List ℕ) (r : TagReader) → r.at ≡ length bytes → may_be_tag r.state ≡ false → HasRead bytes r
+read-none bytes r at none = record {
+  at = at;
+  opened = λ m. absurd (cc);
+  at_start = λ e. absurd (let open_tag = start-is-open r.state e in cc);
+  at_slash = λ e. absurd (let open_tag = slash-is-open r.state e in cc);
+  named = λ e. absurd (let open_tag = and_left (may_be_tag r.state) (not (is_at_start r.state || is_at_slash r.state)) e in cc);
 }
 
 either-none-state : (c : Bool) (x y : TagReader) → may_be_tag x.state ≡ false → may_be_tag y.state ≡ false → may_be_tag (if c then x else y).state ≡ false
@@ -132,14 +274,6 @@ either-none-state false x y p q = q
 either-at : (c : Bool) (r : TagReader) → (if c then r else record r { text_code = r.code; state = text_state r.code r.scripting }).at ≡ r.at
 either-at true r = refl
 either-at false r = refl
-
-and_left : (a b : Bool) → (a && b) ≡ true → a ≡ true
-and_left true b e = refl
-and_left false b e = cc
-
-and_right : (a b : Bool) → (a && b) ≡ true → b ≡ true
-and_right true b e = e
-and_right false b e = cc
 
 -- a byte that ends a tag leads to a state in which none is open
 closed-none : (r : TagReader) → may_be_tag r.state ≡ false → may_be_tag (closed r).state ≡ false
@@ -156,10 +290,8 @@ ends-none r b e = closed-none (advanced r b) (
 
 read-at : (before : List ℕ) (r : TagReader) (b : ℕ) (e : Bool) → ends r b ≡ e → HasRead before r
     → HasRead (before ++ b ∷ []) (if e then closed (advanced r b) else advanced r b)
-read-at before r b true e h = record {
-  at = closed-at (advanced r b) ∙ (read-advanced before r b h).at;
-  opened = λ m. absurd (let none = ends-none r b e in cc);
-}
+read-at before r b true e h =
+    read-none (before ++ b ∷ []) (closed (advanced r b)) (closed-at (advanced r b) ∙ (read-advanced before r b h).at) (ends-none r b e)
 read-at before r b false e h = read-advanced before r b h
 
 read-step : (before : List ℕ) (r : TagReader) (b : ℕ) → HasRead before r → HasRead (before ++ b ∷ []) (step r b)
@@ -172,7 +304,7 @@ stand-low : (bytes : List ℕ) (a b : ℕ) (tags : List Tag) → a ≤ b → Sta
 stand-low bytes a b [] h s = tt
 stand-low bytes a b (tag ∷ tags) h s =
     let first = s.0 in
-    (record { low = omega (arith, h, first.low); some = first.some; opens = first.opens; closes = first.closes }, s.1)
+    (record { low = omega (arith, h, first.low); named = first.named; some = first.some; opens = first.opens; closes = first.closes }, s.1)
 
 needed-low : (before : List ℕ) (r : TagReader) (m : Bool) → may_be_tag r.state ≡ m → HasRead before r → (if m then r.start else r.at) ≤ r.at
 needed-low before r true m h = omega (arith, slice_get_within before r.start 60 (h.opened m), h.at)
@@ -196,11 +328,12 @@ tag-stands : (before bytes : List ℕ) (r : TagReader) (b : ℕ) → ends r b �
 tag-stands before bytes r b e h =
     let is : b ≡ 62 = eqb-true b 62 (and_left (b == 62) (is_in_tag r.state (is_named r)) e) in
     let open_tag : may_be_tag r.state ≡ true = in-tag r.state (is_named r) (and_right (b == 62) (is_in_tag r.state (is_named r)) e) in
-    let less = slice_get_within before r.start 60 (h.opened open_tag) in
+    let named = h.named (in-tag-named r.state (is_named r) (and_right (b == 62) (is_in_tag r.state (is_named r)) e)) in
     let last : r.at + 1 - 1 ≡ length before = omega (arith, h.at) in
     record {
       low = rw open_tag (omega arith);
-      some = omega (arith, less, h.at);
+      named = named.0;
+      some = omega (arith, named.1);
       opens = get-left before (b ∷ bytes) r.start 60 (h.opened open_tag);
       closes = ap (slice_get (before ++ b ∷ bytes)) last ∙ get-seam before b bytes ∙ ap Some is;
     }
@@ -232,7 +365,7 @@ stand-apart before (b ∷ bytes) r h =
 
 pub read-fresh : (scripting : Bool) → HasRead [] (fresh scripting)
 unfolding may_be_tag
-read-fresh scripting = record { at = refl; opened = λ m. absurd (cc) }
+read-fresh scripting = read-none [] (fresh scripting) refl refl
 
 pub read-after : (before bytes : List ℕ) (r : TagReader) → HasRead before r → HasRead (before ++ bytes) (after r bytes)
 read-after before [] r h = let P : List ℕ → Type 0 = λ whole. HasRead whole r in subst P (sym (append-nil before)) h
@@ -242,5 +375,5 @@ read-after before (b ∷ bytes) r h =
 
 pub read-told : (before : List ℕ) (foreign : Bool) (r : TagReader) → HasRead before r → HasRead before (told_foreign foreign r)
 unfolding may_be_tag
-read-told before true r h = record { at = h.at; opened = λ m. absurd (cc) }
-read-told before false r h = record { at = h.at; opened = h.opened }
+read-told before true r h = read-none before (told_foreign true r) h.at refl
+read-told before false r h = record { at = h.at; opened = h.opened; at_start = h.at_start; at_slash = h.at_slash; named = h.named }
