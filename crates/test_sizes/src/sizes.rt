@@ -1,4 +1,4 @@
-//! What tests of every size are made with: words and texts of any length, and how the answer for a number is told.
+//! What tests of great sizes are made with: words and texts of any length, and how the answer for a number is told.
 
 use std::alloc::{AllocError, Global};
 use std::process::Abort;
@@ -40,11 +40,6 @@ pub(crate) fn drawn(
         word.push(random.letter()).expect(rt, "memory");
     }
     word
-}
-
-/// The first so many letters of a word.
-pub(crate) fn beginning(word: &str, letters: usize) -> &str {
-    word.get(..letters).unwrap_or("")
 }
 
 /// A text that begins so, goes on so to a number of parts, and ends so.
