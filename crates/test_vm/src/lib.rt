@@ -1,13 +1,9 @@
-//! Tests of what a start tag gathers, of the machine, of whole runs and of callers. There are rows whose answers come from outside, a long
-//! run beside selectors that are matched by hand, and each call that can refuse once with ample memory.
+//! Rows of tags whose answers were worked out apart from the code, for the machine and for whole runs, so that definitions and code that are
+//! wrong alike are found; and the texts of errors, which no contract says.
 #![tactic(auto)]
 
 #[cfg(test)]
-mod contexts;
-#[cfg(test)]
 mod errors;
-#[cfg(test)]
-mod machine_model;
 #[cfg(test)]
 mod machine_runs;
 #[cfg(test)]
@@ -18,7 +14,5 @@ mod machines;
 mod passed_on;
 #[cfg(test)]
 mod runs;
-#[cfg(test)]
-mod small_uses;
 #[cfg(test)]
 mod uses;
