@@ -1,14 +1,10 @@
-//! Tests of the trees that selectors make, of their programs, and of what rows leave of these. There are rows whose answers come from
-//! outside, and each call that can refuse once with ample memory.
+//! Tests of the trees that selectors make, of their programs, and of what rows leave of these, by rows whose answers come from outside or were
+//! counted by hand: definitions and code that are wrong alike fail them.
 #![tactic(auto)]
 
-#[cfg(test)]
-mod found_again;
 #[cfg(test)]
 mod nodes;
 #[cfg(test)]
 mod programs;
 #[cfg(test)]
 mod rows;
-#[cfg(test)]
-mod trees;

@@ -1,4 +1,4 @@
-//! Where instructions stand, and what they give.
+//! Where instructions stand, and what they give: rows of lol_html's own tests, which a wrong definition of programs would fail.
 
 use crate::nodes::{Row, SELECTORS_OF_BOTH_STEPS, expect_rows, selectors};
 use lol_program::{Compiler, ExecutionBranch, Instruction, Program};

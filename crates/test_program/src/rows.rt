@@ -1,8 +1,9 @@
-//! Rows of the instructions of selectors that stand side by side.
+//! Rows of the instructions of selectors that stand side by side: what is left of them was counted by hand, so that definitions of keys and
+//! code that are wrong alike are found.
 
 use crate::nodes::add;
 use lol_base::{Attributes, LocalName, Namespace};
-use lol_program::{Ast, AttributeMatcher, Compiler, Instruction, Program};
+use lol_program::{Ast, AttributeMatcher, Compiler, Program};
 use lol_rows::{Rows, TagKeys, name_hashes};
 use std::alloc::{AllocError, Global};
 use std::ops::Range;
@@ -117,21 +118,13 @@ fn add_lines(alloc: Global, ast: &mut Ast, lines: &str) -> Result<(), Fail> {
 enum Question<'q> {
     /// Whether they leave what is counted by hand.
     Counted(&'q [Row<'q>]),
-    /// Whether they look up long ranges only.
-    LooksUp(&'q [MetRow]),
-    /// Whether they leave what a look at each leaves, in each range from one of so many starts to one of these ends.
-    LeavesAlike(usize, Ends, &'q [Tag<'q>]),
-    /// Whether they add it in these ranges.
-    AddsAlike(&'q [Ends], &'q [Tag<'q>]),
-    /// Whether they know what needs attributes.
-    Opens(&'q [Open<'q>]),
     /// Whether they leave these addresses of tags.
     Leaves(&'q [LeftRow<'q>]),
     /// Whether they tell keys of one hash apart.
     TellsApart,
 }
 
-use Question::{AddsAlike, Counted, Leaves, LeavesAlike, LooksUp, Opens, TellsApart};
+use Question::{Counted, Leaves, TellsApart};
 
 /// Expects the rows of selectors, one on each line of texts, to answer as they should.
 fn check(
@@ -152,13 +145,6 @@ fn expect_answer(
 ) -> Result<(), Fail> {
     match question {
         Counted(rows) => expect_counted(rt, alloc, tried, rows),
-        LooksUp(rows) => expect_met(rt, alloc, tried, rows),
-        LeavesAlike(starts, ends, tags) => expect_alike(rt, alloc, tried, starts, ends, tags),
-        AddsAlike(ranges, tags) => expect_added(rt, alloc, tried, ranges, tags),
-        Opens(rows) => {
-            expect_open(rt, tried, rows);
-            Ok(())
-        }
         Leaves(rows) => expect_left(rt, alloc, tried, rows),
         TellsApart => expect_told_apart(rt, alloc, tried),
     }
@@ -344,305 +330,12 @@ fn are_made_where_they_are_asked_for(rt: HostRuntime) -> Result<(), Fail> {
     Ok(())
 }
 
-/// How many of a range a name leaves, and how many of these were looked up.
-fn met(
-    alloc: Global,
-    tried: &WithRows,
-    range: &Range<usize>,
-    name: &[u8],
-) -> Result<(usize, usize), AllocError> {
-    let name = LocalName::new(name);
-    let hashes = name_hashes(&name);
-    let (mut found, mut left) = (Vec::new(alloc), Vec::new(alloc));
-    add_left(
-        tried,
-        range,
-        &name,
-        None,
-        Some(&hashes),
-        &mut found,
-        &mut left,
-    )?;
-    Ok((left.len(), found.len()))
-}
-
-/// The start and the end of a range.
-type Ends = (usize, usize);
-
-/// A range, how many of it are left, and how many of these are looked up.
-type MetRow = (Ends, (usize, usize));
-
-/// Expects `p` to leave so many of each range, and so many of these to be looked up.
-fn expect_met(
-    rt: &impl Abort,
-    alloc: Global,
-    tried: &WithRows,
-    rows: &[MetRow],
-) -> Result<(), Fail> {
-    for ((start, end), counts) in rows {
-        let met = met(alloc, tried, &(*start..*end), b"p")?;
-        assert!(rt; met == *counts, "{start}");
-    }
-    Ok(())
-}
-
-static LOOKED_UP: [MetRow; 4] = [
-    ((0, 49), (11, 11)),
-    ((1, 49), (11, 11)),
-    ((2, 49), (10, 0)),
-    ((49, 2), (0, 0)),
-];
-
-#[test]
-fn look_up_only_long_ranges(rt: HostRuntime) -> Result<(), Fail> {
-    check(&rt, rt.alloc(), &[SELECTORS, OTHERS], LooksUp(&LOOKED_UP))
-}
-
-/// What is left of a range by a look at each.
-fn each_left(
-    alloc: Global,
-    instructions: &[Instruction],
-    range: &Range<usize>,
-    name: &LocalName<'_>,
-    matcher: Option<&AttributeMatcher<'_>>,
-) -> Result<Vec<u32>, AllocError> {
-    let mut left = Vec::new(alloc);
-    for (instruction, address) in instructions.iter().zip(0..u32::MAX) {
-        if range.contains(&(address as usize)) && is_left(instruction, name, matcher) {
-            left.push(address)?;
-        }
-    }
-    Ok(left)
-}
-
-fn is_left(
-    instruction: &Instruction,
-    name: &LocalName<'_>,
-    matcher: Option<&AttributeMatcher<'_>>,
-) -> bool {
-    let predicate = &instruction.predicate;
-    let lacks = match matcher {
-        Some(matcher) => predicate.lacks_key(matcher),
-        None => false,
-    };
-    !predicate.has_other_name(name) && !lacks
-}
-
-fn some_open(instructions: &[Instruction], range: &Range<usize>, name: &LocalName<'_>) -> bool {
-    for (address, instruction) in instructions.iter().enumerate() {
-        if range.contains(&address) && is_open(instruction, name) {
-            return true;
-        }
-    }
-    false
-}
-
-fn is_open(instruction: &Instruction, name: &LocalName<'_>) -> bool {
-    !instruction.predicate.has_other_name(name) && instruction.predicate.opens_where_named()
-}
-
-/// Whether rows leave of a range what a look at each leaves.
-fn leaves_alike<'t>(
-    alloc: Global,
-    tried: &WithRows,
-    range: &Range<usize>,
-    name: &'t LocalName<'t>,
-    matcher: Option<&'t AttributeMatcher<'t>>,
-) -> Result<bool, AllocError> {
-    let each = each_left(alloc, &tried.program.instructions, range, name, matcher)?;
-    Ok(by_rows(alloc, tried, range, name, matcher)? == each)
-}
-
-/// Whether rows say of a range what a look at each says: whether one is known to need attributes.
-fn opens_alike(tried: &WithRows, range: &Range<usize>, name: &LocalName<'_>) -> bool {
-    some_open(&tried.program.instructions, range, name) == has_open(tried, range, name)
-}
-
-static TAGS: [Tag<'static>; 5] = [
-    ("p", &[]),
-    ("P", &[("class", "a b")]),
-    ("div", &[("id", "i"), ("href", "")]),
-    ("a-very-long-name", &[("HREF", "x"), ("class", "")]),
-    ("x", &[("class", "a\x0ca")]),
-];
-
-/// How rows are asked.
-#[derive(Clone, Copy)]
-enum Asked {
-    /// For what a tag leaves, and whether its name is known to need attributes.
-    Once,
-    /// To add what a tag leaves to a list, twice.
-    Twice,
-}
-
-fn is_alike<'t>(
-    alloc: Global,
-    tried: &WithRows,
-    range: &Range<usize>,
-    asked: Asked,
-    name: &'t LocalName<'t>,
-    matcher: Option<&'t AttributeMatcher<'t>>,
-) -> Result<bool, AllocError> {
-    match asked {
-        Asked::Once => {
-            Ok(opens_alike(tried, range, name) && leaves_alike(alloc, tried, range, name, matcher)?)
-        }
-        Asked::Twice => adds_alike(alloc, tried, range, name, matcher),
-    }
-}
-
-/// Whether rows answer as a look at each does, by name, and by name and attributes.
-fn are_alike(
-    alloc: Global,
-    tried: &WithRows,
-    range: &Range<usize>,
-    asked: Asked,
-    (name, pairs): &Tag<'_>,
-) -> Result<bool, AllocError> {
-    let name = LocalName::new(name.as_bytes());
-    let attributes = attributes(alloc, pairs)?;
-    let matcher = matcher(&attributes);
-    Ok(
-        is_alike(alloc, tried, range, asked, &name, None)?
-            && is_alike(alloc, tried, range, asked, &name, Some(&matcher))?,
-    )
-}
-
-/// Whether the same holds of each tag.
-fn all_alike(
-    alloc: Global,
-    tried: &WithRows,
-    range: &Range<usize>,
-    asked: Asked,
-    tags: &[Tag<'_>],
-) -> Result<bool, AllocError> {
-    for tag in tags {
-        if !are_alike(alloc, tried, range, asked, tag)? {
-            return Ok(false);
-        }
-    }
-    Ok(true)
-}
-
-/// Expects rows to leave in each range from one of these starts to one of these ends what a look at each leaves.
-fn expect_alike(
-    rt: &impl Abort,
-    alloc: Global,
-    tried: &WithRows,
-    starts: usize,
-    ends: Ends,
-    tags: &[Tag<'_>],
-) -> Result<(), Fail> {
-    for start in 0..starts {
-        for end in ends.0..ends.1 {
-            assert!(rt; all_alike(alloc, tried, &(start..end), Asked::Once, tags)?);
-        }
-    }
-    Ok(())
-}
-
-#[test]
-fn leave_what_a_look_at_each_leaves(rt: HostRuntime) -> Result<(), Fail> {
-    let asked = LeavesAlike(15, (0, 15), &TAGS);
-    check(&rt, rt.alloc(), &[SELECTORS], asked)
-}
-
-/// Ranges of 45 addresses and more, also past the last instruction.
-#[test]
-fn leave_of_long_ranges_what_a_look_at_each_leaves(rt: HostRuntime) -> Result<(), Fail> {
-    let asked = LeavesAlike(6, (50, 61), &TAGS);
-    check(&rt, rt.alloc(), &[SELECTORS, OTHERS], asked)
-}
-
-/// Whether what is added to a list is what a look at each leaves, after what the list had, and in the room that it has, with the hashes of
-/// the tag's keys and without.
-fn adds_alike<'t>(
-    alloc: Global,
-    tried: &WithRows,
-    range: &Range<usize>,
-    name: &'t LocalName<'t>,
-    matcher: Option<&'t AttributeMatcher<'t>>,
-) -> Result<bool, AllocError> {
-    let each = each_left(alloc, &tried.program.instructions, range, name, matcher)?;
-    let mut twice = Vec::with_capacity(alloc, 2 * each.len())?;
-    let room = twice.capacity();
-    add_twice(alloc, tried, range, name, matcher, &mut twice)?;
-    Ok(are_twice(&twice, &each) && twice.capacity() == room)
-}
-
-/// Adds what a tag leaves, with the hashes of its keys and without.
-fn add_twice<'t>(
-    alloc: Global,
-    tried: &WithRows,
-    range: &Range<usize>,
-    name: &'t LocalName<'t>,
-    matcher: Option<&'t AttributeMatcher<'t>>,
-    twice: &mut Vec<u32>,
-) -> Result<(), AllocError> {
-    let hashes = hashes(alloc, &tried.rows, name, matcher)?;
-    let mut found = Vec::new(alloc);
-    add_left(
-        tried,
-        range,
-        name,
-        matcher,
-        Some(&hashes),
-        &mut found,
-        twice,
-    )?;
-    add_left(tried, range, name, matcher, None, &mut found, twice)
-}
-
-/// Whether a list is another one twice.
-fn are_twice(twice: &[u32], once: &[u32]) -> bool {
-    match twice.split_at_checked(once.len()) {
-        Some((first, second)) => first == once && second == once,
-        None => false,
-    }
-}
-
-/// Short ranges and long ones, also past the last instruction.
-static RANGES: [Ends; 9] = [
-    (0, 0),
-    (0, 13),
-    (3, 9),
-    (9, 3),
-    (0, 49),
-    (1, 49),
-    (2, 49),
-    (5, 60),
-    (48, 120),
-];
-
-/// Expects rows to add in each range what a look at each leaves.
-fn expect_added(
-    rt: &impl Abort,
-    alloc: Global,
-    tried: &WithRows,
-    ranges: &[Ends],
-    tags: &[Tag<'_>],
-) -> Result<(), Fail> {
-    for (start, end) in ranges {
-        let alike = all_alike(alloc, tried, &(*start..*end), Asked::Twice, tags)?;
-        assert!(rt; alike, "{start}");
-    }
-    Ok(())
-}
-
-#[test]
-fn add_what_a_look_at_each_leaves(rt: HostRuntime) -> Result<(), Fail> {
-    let asked = AddsAlike(&RANGES, &TAGS);
-    check(&rt, rt.alloc(), &[SELECTORS, OTHERS], asked)
-}
-
 fn has_open(tried: &WithRows, range: &Range<usize>, name: &LocalName<'_>) -> bool {
     let instructions = tried.program.instructions.as_slice();
     tried
         .rows
         .has_open(instructions, range, name, &name_hashes(name))
 }
-
-const FEW: &str = "p\n:not(.a)\ndiv.a\np:nth-child(2).b";
 
 /// 48 selectors with no test of attributes.
 const PLAIN: &str = "\
@@ -658,40 +351,6 @@ const PLAIN: &str = "\
     h5:nth-child(5)\nh5:nth-child(6)\nh5:nth-child(7)\nh5:nth-child(8)\n\
     h6:nth-child(1)\nh6:nth-child(2)\nh6:nth-child(3)\nh6:nth-child(4)\n\
     h6:nth-child(5)\nh6:nth-child(6)\nh6:nth-child(7)\nh6:nth-child(8)";
-
-/// A range, a name, and whether the range has a selector of the name that is known to need attributes.
-type Open<'t> = (Ends, &'t str, bool);
-
-fn expect_open(rt: &impl Abort, tried: &WithRows, rows: &[Open<'_>]) {
-    for ((start, end), name, open) in rows {
-        let local_name = LocalName::new(name.as_bytes());
-        let has_open = has_open(tried, &(*start..*end), &local_name);
-        assert!(rt; has_open == *open, "{name}");
-    }
-}
-
-static OPEN: [Open<'static>; 3] = [
-    ((0, 4), "p", false),
-    ((0, 4), "DIV", true),
-    ((0, 2), "div", false),
-];
-
-#[test]
-fn know_what_needs_attributes(rt: HostRuntime) -> Result<(), Fail> {
-    check(&rt, rt.alloc(), &[FEW], Opens(&OPEN))
-}
-
-/// The same, looked up.
-static OPEN_IN_LONG: [Open<'static>; 3] = [
-    ((0, 52), "p", false),
-    ((0, 52), "DIV", true),
-    ((3, 52), "div", false),
-];
-
-#[test]
-fn know_what_needs_attributes_in_a_long_range(rt: HostRuntime) -> Result<(), Fail> {
-    check(&rt, rt.alloc(), &[FEW, PLAIN], Opens(&OPEN_IN_LONG))
-}
 
 /// The hash of the class of a tag `x`.
 fn class_hash(alloc: Global, rows: &Rows, class: &str) -> Result<Option<u32>, AllocError> {
