@@ -1,4 +1,4 @@
-//! Attributes that are built from names and values.
+//! Many attributes: what refuses the next of them meets its contract.
 
 use crate::sets::expect;
 use lol_base::{AttributeOutline, Attributes, AuxStartTagInfo, Range};
@@ -7,14 +7,6 @@ use std::test::Fail;
 
 /// A name, and a value where one is written.
 type Written<'t> = (&'t [u8], Option<&'t [u8]>);
-
-static WRITTEN: [Written<'static>; 5] = [
-    (b"rel", Some(b"nofollow me")),
-    (b"hidden", None),
-    (b"REL", Some(b"")),
-    (b"", Some(b"\xff")),
-    (b"data-\xc3\xa9", Some(b" ")),
-];
 
 fn stands_at(input: &[u8], range: Range, bytes: &[u8]) -> bool {
     input
@@ -64,31 +56,6 @@ fn takes(
     let empty = has(attributes, false, &[]);
     add(attributes, written)?;
     Ok(empty && has(attributes, self_closing, written))
-}
-
-/// The same of some attributes, and of others once these are cleared.
-fn takes_both(
-    alloc: Global,
-    written: &[Written<'_>],
-    others: &[Written<'_>],
-) -> Result<bool, AllocError> {
-    let mut attributes = Attributes::new(alloc);
-    let taken = takes(&mut attributes, false, written)?;
-    attributes.clear();
-    Ok(taken && takes(&mut attributes, true, others)?)
-}
-
-#[test]
-fn are_those_that_were_pushed(rt: HostRuntime) -> Result<(), Fail> {
-    expect(&rt, takes_both(rt.alloc(), &WRITTEN, &WRITTEN[..2]))
-}
-
-#[test]
-fn say_whether_their_tag_closes_itself(rt: HostRuntime) {
-    let attributes = Attributes::new(rt.alloc());
-    assert!(rt; attributes.aux_info(true).self_closing);
-    assert!(rt; !attributes.aux_info(false).self_closing);
-    assert!(rt; attributes.aux_info(true).ranges_inside());
 }
 
 static LONG: [u8; 300] = [b'x'; 300];

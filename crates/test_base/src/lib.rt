@@ -1,12 +1,9 @@
-//! Tests of names, attributes, maps by name, tables by hash, limits, charged lists and sets of ids: rows whose answers come from outside, and each call that can
-//! refuse once with ample memory.
+//! Tests of names, attributes, maps by name, limits, charged lists and sets of ids: rows whose answers come from outside, which definitions that
+//! are wrong would fail, and an `Ok` of each call that can refuse, also at a great size.
 #![tactic(auto)]
 
 #[cfg(test)]
 mod attributes;
-#[cfg(test)]
-mod cases;
-#[cfg(test)]
 #[cfg(test)]
 mod limits;
 #[cfg(test)]

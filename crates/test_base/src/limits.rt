@@ -1,4 +1,4 @@
-//! The limiter, and lists with charged slots.
+//! What a list charges, by numbers worked out from lol_html's code, which a wrong definition of slots would fail; and the texts of refusals.
 
 ghost use Rattle.std.specs.Prelude.{◌≡◌, ◌<◌};
 
@@ -7,72 +7,6 @@ use lol_memory::{LimitedVec, MemoryLimitExceededError, PushError, SharedMemoryLi
 use std::alloc::{AllocError, Global};
 use std::process::Abort;
 use std::test::Fail;
-
-/// Whether so many bytes more are counted or not, as it is said, and this is the usage then.
-fn counts(limiter: &mut SharedMemoryLimiter, bytes: usize, fits: bool, usage: usize) -> bool {
-    limiter.increase_usage(bytes).is_ok() == fits && limiter.current_usage() == usage
-}
-
-#[test]
-fn counts_up_to_the_maximum(rt: HostRuntime) {
-    let mut limiter = SharedMemoryLimiter::new(10);
-    assert!(rt; counts(&mut limiter, 3, true, 3) && counts(&mut limiter, 5, true, 8));
-    assert!(rt; limiter.current_usage() == 8);
-    limiter.decrease_usage(4);
-    assert!(rt; limiter.current_usage() == 4);
-    assert!(rt; counts(&mut limiter, 15, false, 4));
-}
-
-/// Whether a first push passes a limit, and leaves a list and the limiter as they were.
-fn refuses_first_push(alloc: Global, item_bytes: usize, max: usize) -> bool
-    requires { 0 < item_bytes }
-{
-    let mut limiter = SharedMemoryLimiter::new(max);
-    let mut list = LimitedVec::new(alloc, item_bytes);
-    let refused = matches!(list.push(7u8, &mut limiter), Err(PushError::Limit(_)));
-    let untouched = (list.len(), list.slots(), limiter.current_usage()) == (0, 0, 0);
-    list.release(&mut limiter);
-    refused && untouched
-}
-
-#[test]
-fn refuses_a_first_push_above_the_maximum(rt: HostRuntime) {
-    for (item_bytes, max) in [(1, 0), (2, 1), (257, 256), (usize::MAX, usize::MAX)] {
-        assert!(rt;
-            refuses_first_push(rt.alloc(), item_bytes, max),
-            "{item_bytes} bytes, {max} at most"
-        );
-    }
-}
-
-/// How many slots a list takes for its first element.
-fn first_slots(rt: &impl Abort, alloc: Global, item_bytes: usize) -> usize
-    requires { 0 < item_bytes }
-{
-    let mut limiter = SharedMemoryLimiter::new(1000);
-    let mut list = LimitedVec::new(alloc, item_bytes);
-    fill(rt, &mut list, 1, &mut limiter);
-    let slots = list.slots();
-    release(rt, list, item_bytes, &mut limiter);
-    slots
-}
-
-#[test]
-fn takes_the_fewest_slots_first(rt: HostRuntime) {
-    for (item_bytes, slots) in [(1, 128), (7, 18), (64, 8)] {
-        let taken = first_slots(&rt, rt.alloc(), item_bytes);
-        assert!(rt; taken == slots, "{item_bytes} bytes: {taken}");
-    }
-}
-
-#[test]
-fn keeps_the_charge_of_a_discarded_list(rt: HostRuntime) {
-    let mut limiter = SharedMemoryLimiter::new(1000);
-    let mut list = LimitedVec::new(rt.alloc(), 64);
-    fill(&rt, &mut list, 3, &mut limiter);
-    list.discard();
-    assert!(rt; limiter.current_usage() == 512);
-}
 
 /// Whether a list has so many elements and slots.
 fn has(list: &LimitedVec<usize>, len: usize, slots: usize) -> bool {
@@ -152,48 +86,6 @@ fn keeps_the_charge_until_it_is_released(rt: HostRuntime) {
     ] {
         check_charge(&rt, rt.alloc(), item_bytes, slots);
     }
-}
-
-/// Drains the second to the fourth of six elements, and says whether the second and the third came first.
-fn gives_two(rt: &impl Abort, list: &mut LimitedVec<usize>) -> bool
-    ensures { list.new.item_bytes ≡ list.old.item_bytes }
-{
-    assert!(rt; list.len() == 6);
-    let mut taken = list.drain(1..4);
-    let first = taken.next();
-    let second = taken.next();
-    (first, second) == (Some(1), Some(2))
-}
-
-/// Whether what `gives_two` leaves is there.
-fn has_the_rest(list: &LimitedVec<usize>) -> bool {
-    list.as_slice() == [0, 4, 5].as_slice() && list[1] == 4
-}
-
-/// Writes over the last element, and turns the list round.
-fn change_and_turn(list: &mut LimitedVec<usize>)
-    ensures { list.new.item_bytes ≡ list.old.item_bytes }
-{
-    if let Some(last) = list.last_mut() {
-        *last = 9;
-    }
-    list.as_mut_slice().reverse();
-}
-
-/// Whether a list is what `change_and_turn` makes of the rest.
-fn is_turned(list: &LimitedVec<usize>) -> bool {
-    list.as_slice() == [9, 4, 0].as_slice() && list.last() == Some(&0)
-}
-
-#[test]
-fn gives_what_it_takes_out_in_order(rt: HostRuntime) {
-    let mut limiter = SharedMemoryLimiter::new(1000);
-    let mut list = LimitedVec::new(rt.alloc(), 1);
-    fill(&rt, &mut list, 6, &mut limiter);
-    assert!(rt; gives_two(&rt, &mut list) && has_the_rest(&list));
-    change_and_turn(&mut list);
-    assert!(rt; is_turned(&list));
-    release(&rt, list, 1, &mut limiter);
 }
 
 /// Whether it is said that the memory limit has been exceeded.
