@@ -6,7 +6,7 @@ use lol_instructions::{
     AttributeMatcher, ChildCounter, Instruction, SelectorState, Tries, TryExecResult,
 };
 use lol_program::{Compiler, Program};
-use std::alloc::{AllocError, Global};
+use std::alloc::Global;
 use std::process::Abort;
 use std::test::Fail;
 use test_kit::{TagWord, selectors};

@@ -1,5 +1,5 @@
-//! Tests of what a start tag is tried with, and of open elements: attributes, compiled tests, instructions, counters of children and stacks.
-//! Rows whose answers come from outside, a long run beside plain lists, and each call that can refuse once with ample memory.
+//! Tests of what a start tag is tried with, and of open elements: rows whose answers come from outside, which code and definitions that are
+//! wrong alike fail.
 #![tactic(auto)]
 
 #[cfg(test)]
@@ -10,7 +10,5 @@ mod compiled_tests;
 mod counters;
 #[cfg(test)]
 mod instructions;
-#[cfg(test)]
-mod stack_model;
 #[cfg(test)]
 mod stacks;
