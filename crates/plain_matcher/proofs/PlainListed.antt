@@ -1,6 +1,6 @@
 -- The list of the tree's nodes.
-use Rattle.std.proofs.Common.{◌≡◌, ℕ, ◌+◌, ◌<◌, Bool, ◌||◌, cond, List, [], ◌∷◌, ◌++◌, map, take, length, get_or, refl, sym, ap, ◌∙◌, arith, append_assoc}
-use Rattle.std.specs.List.{count_by, flat_map, list_any}
+use Rattle.std.proofs.Common.{◌≡◌, ℕ, ◌+◌, ◌<◌, Bool, cond, List, [], ◌∷◌, ◌++◌, map, take, length, get_or, refl, sym, ap, ◌∙◌, arith, append_assoc}
+use Rattle.std.specs.List.{count_by, flat_map}
 use Rattle.std.proofs.lemmas.List.{append-nil, map_push}
 use Rattle.std.proofs.lemmas.List.Sums.{sum_by-append}
 use Rattle.std.proofs.lemmas.Grind.{flat_map-append}
@@ -77,10 +77,6 @@ pub pairs_more : (nodes : List PlainNode) (i : ℕ) (n : PlainNode) → i < leng
 pairs_more nodes i n within at =
     ap (flat_map pairs_at) (mapped_more node_shown nodes i n within at) ∙ flat_map-append pairs_at (map node_shown (take i nodes)) (node_shown n ∷ [])
     ∙ ap (λ l. flat_map pairs_at (map node_shown (take i nodes)) ++ l) (append-nil (pairs_at (node_shown n)))
-
-pub any_listed : (p : Path → Bool) (nodes : List PlainNode) → list_any p (paths_of nodes) ≡ list_any (λ node. p (path_shown node.path.items)) nodes
-any_listed p [] = refl
-any_listed p (node ∷ nodes) = ap (λ (b : Bool). p (path_shown node.path.items) || b) (any_listed p nodes)
 
 pub count_push : {A : Type 0} (p : A → Bool) (xs : List A) (x : A) → count_by p (xs ++ x ∷ []) ≡ count_by p xs + cond (p x) 1 0
 count_push p xs x = omega (arith, sum_by-append (λ y. cond (p y) 1 0) xs (x ∷ []))

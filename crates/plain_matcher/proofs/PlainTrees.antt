@@ -13,13 +13,12 @@ use Rattle.lol_instructions.specs.Tests.{Element, is_html}
 use Rattle.lol_instructions.specs.Compounds.{Compound}
 use Rattle.lol_program.specs.Paths.{Path, First, Then, Selectors}
 use Rattle.lol_program.specs.Forest.{Forest, none, more, tops, below, nodes_in, pairs_in}
-use Rattle.lol_vm.specs.Events.{Event, Start, End, has_content}
-use Rattle.lol_vm.specs.Documents.{Document, empty, element_of, after_start, after_end}
+use Rattle.lol_vm.specs.Events.{Event}
+use Rattle.lol_vm.specs.Documents.{empty}
 use Rattle.lol_vm.specs.AnswerLaws.{same_answers}
-use Rattle.lol_vm.specs.Answers.{matching_ids, needs_attributes, asks, answers, after, is_tried}
+use Rattle.lol_vm.specs.Answers.{matching_ids, needs_attributes, asks, answers, is_tried}
 use Rattle.lol_vm.specs.KeyTries.{is_left, is_left_open, node_keys}
 use Rattle.lol_vm.specs.Matching.{left_matches}
-use Rattle.lol_reasons.specs.Explanations.{Added, reasons, reasons_at, explanations, explanations_from}
 use Rattle.plain_matcher.specs.PlainNodes.{nodes_listed, pairs_at, selectors_listed}
 
 -- 1. Counts
@@ -102,23 +101,3 @@ listed_answers f by_keys esi events =
     let counts : (p : Path → Bool) → count_by p listed.nodes ≡ count_by p trees.nodes = λ p. nodes_counted p f in
     same_answers listed trees esi (λ e outer. ap (λ pairs. matching_ids pairs e outer) (pairs_listed First f)) (same_asks listed trees counts)
     (same_tried listed trees counts refl) counts empty events
-
--- 4. Reasons
-
-module _ (s t : Selectors) (esi : Bool) (added : List Added) (same : (e : Element) (outer : List Element) → asks s e outer ≡ asks t e outer) where
-  same_explanations : (d : Document) (events : List Event) → explanations_from s esi added d events ≡ explanations_from t esi added d events
-  same_explanations d [] = refl
-  same_explanations d (Start tag ∷ events) =
-      (λ i.
-      let dropped = same (element_of d tag) d.open_elements i && not tag.finish in
-      cond dropped [] (reasons added (element_of d tag) d.open_elements) ∷ explanations_from s esi added (after_start d tag (has_content esi tag && not dropped)) events)
-      ∙ ap (λ rest. reasons_at t added d (Start tag) ∷ rest) (same_explanations (after t esi d (Start tag)) events)
-  same_explanations d (End name ∷ events) = ap (λ rest. [] ∷ rest) (same_explanations (after_end d name) events)
-
--- no reason depends on what is spared
-pub listed_explanations : (f : Forest) (spared by_keys esi : Bool) (added : List Added) (events : List Event)
-    → explanations (selectors_listed spared (nodes_listed First f)) esi added events ≡ explanations (grown by_keys f) esi added events
-listed_explanations f spared by_keys esi added events =
-    let listed = selectors_listed spared (nodes_listed First f) in
-    let trees = grown by_keys f in
-    same_explanations listed trees esi added (same_asks listed trees (λ p. nodes_counted p f)) empty events

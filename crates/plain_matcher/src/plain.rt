@@ -13,7 +13,7 @@ ghost use Rattle.plain_matcher.specs.Plain.{document_shown, answer_shown, start_
 use crate::plain_document::{PlainDocument, add_element, close, has_content, new_element};
 use crate::plain_element::PlainElement;
 use crate::plain_nodes::{PlainNode, list_nodes, matching_ids};
-use crate::plain_tries::{Trying, counted_tries, some_left_open};
+use crate::plain_tries::counted_tries;
 use lol_base::Namespace;
 use lol_css::Combinator;
 use lol_memory::{DenseHashSet, MatchInfo};
@@ -40,51 +40,41 @@ pub enum PlainAnswer {
     },
 }
 
-/// The answers to a list of tags, over selectors, by the definitions alone; `by_keys` says whether nodes that keys rule out are spared, as
-/// with rows. It takes time that grows exponentially with the compounds of a selector, and memory for each test.
+/// The answers to a list of tags, over selectors, by the definitions alone, as without rows. It takes time that grows exponentially with the
+/// compounds of a selector, and memory for each test.
 ///
 /// # Errors
 /// Where memory was refused, or a parent has more children than an `i32` counts.
 pub fn plain_answers(
     alloc: Global,
     ast: &Ast,
-    by_keys: bool,
     enable_esi_tags: bool,
     events: &[TagEvent],
 ) -> Result<Vec<PlainAnswer>, AllocError>
     requires { All HasRangesInside events.now }
     ensures { IfOk result (λ told. map answer_shown told.items
-        ≡ answers.answers (in_mode by_keys (selectors ast.now)) enable_esi_tags (map event_of events.now)) }
+        ≡ answers.answers (in_mode false (selectors ast.now)) enable_esi_tags (map event_of events.now)) }
 {
     let mut nodes = Vec::new(alloc);
     list_nodes(alloc, ast.root(), Combinator::Descendant, &[], &mut nodes)?;
-    answers_of(alloc, &nodes, by_keys, enable_esi_tags, events)
+    answers_of(alloc, &nodes, enable_esi_tags, events)
 }
 
 /// The answers to a list of tags, over the nodes.
 fn answers_of(
     alloc: Global,
     nodes: &[PlainNode<'_>],
-    by_keys: bool,
     enable_esi_tags: bool,
     events: &[TagEvent],
 ) -> Result<Vec<PlainAnswer>, AllocError>
     requires { All HasRangesInside events.now }
     ensures { IfOk result (λ told. map answer_shown told.items
-        ≡ answers.answers (selectors_shown by_keys nodes.now) enable_esi_tags (map event_of events.now)) }
+        ≡ answers.answers (selectors_shown false nodes.now) enable_esi_tags (map event_of events.now)) }
 {
     let mut document = PlainDocument::new(alloc);
     let mut told = Vec::new(alloc);
     for (number, event) in events.iter().enumerate() {
-        told.push(answer(
-            alloc,
-            nodes,
-            by_keys,
-            enable_esi_tags,
-            number,
-            &mut document,
-            event,
-        )?)?;
+        told.push(answer(alloc, nodes, enable_esi_tags, number, &mut document, event)?)?;
     }
     Ok(told)
 }
@@ -93,7 +83,6 @@ fn answers_of(
 pub(crate) fn answer<'e>(
     alloc: Global,
     nodes: &[PlainNode<'_>],
-    by_keys: bool,
     enable_esi_tags: bool,
     number: usize,
     document: &mut PlainDocument<'e>,
@@ -101,10 +90,10 @@ pub(crate) fn answer<'e>(
 ) -> Result<PlainAnswer, AllocError>
     requires { HasRangesInside event.now }
     ensures answer { IfOk result (λ told. answer_shown told
-        ≡ answers.answer (selectors_shown by_keys nodes.now) enable_esi_tags (document_shown number document.old)
+        ≡ answers.answer (selectors_shown false nodes.now) enable_esi_tags (document_shown number document.old)
         (event_of event.now)) }
     ensures document { OnOk result (document_shown (number + 1) document.new
-        ≡ answers.after (selectors_shown by_keys nodes.now) enable_esi_tags (document_shown number document.old)
+        ≡ answers.after (selectors_shown false nodes.now) enable_esi_tags (document_shown number document.old)
         (event_of event.now)) }
 {
     match event {
@@ -115,15 +104,7 @@ pub(crate) fn answer<'e>(
             finish,
         } => {
             let element = new_element(number, document, name, *ns, *aux_info, *finish)?;
-            start(
-                alloc,
-                nodes,
-                by_keys,
-                enable_esi_tags,
-                *ns,
-                document,
-                element,
-            )
+            start(alloc, nodes, enable_esi_tags, *ns, document, element)
         }
         TagEvent::End { name } => {
             let closed = close(alloc, document, name)?;
@@ -136,7 +117,6 @@ pub(crate) fn answer<'e>(
 fn start<'e>(
     alloc: Global,
     nodes: &[PlainNode<'_>],
-    by_keys: bool,
     enable_esi_tags: bool,
     ns: Namespace,
     document: &mut PlainDocument<'e>,
@@ -144,10 +124,10 @@ fn start<'e>(
 ) -> Result<PlainAnswer, AllocError>
     requires { (element_shown element).tag.namespace ≡ ns }
     ensures answer { IfOk result (λ told. answer_shown told
-        ≡ start_answer (selectors_shown by_keys nodes.now) enable_esi_tags (element_shown element.entry)
+        ≡ start_answer (selectors_shown false nodes.now) enable_esi_tags (element_shown element.entry)
         (map element_shown document.old.open_elements.items)) }
     ensures document { OnOk result ((events : ℕ) → document_shown (events + 1) document.new
-        ≡ started (selectors_shown by_keys nodes.now) enable_esi_tags (document_shown events document.old)
+        ≡ started (selectors_shown false nodes.now) enable_esi_tags (document_shown events document.old)
         (element_shown element.entry)) }
 {
     let with_content = has_content(ns, enable_esi_tags, &element);
@@ -156,11 +136,9 @@ fn start<'e>(
     let told = if dropped {
         PlainAnswer::Dropped
     } else {
-        let trying = trying_for(alloc, nodes, by_keys, ns, &element, &document.open_elements)?;
         report(
             alloc,
             nodes,
-            trying,
             with_content,
             asked,
             &element,
@@ -183,38 +161,14 @@ fn asks(
     ensures { IfOk result (λ asked. asked ≡ answers.asks (selectors_shown false nodes.now)
         (element_shown element.now) (map element_shown outer.now)) }
 {
-    let (_, attributes) = counted_tries(alloc, nodes, Trying::All, element, outer)?;
+    let (_, attributes) = counted_tries(alloc, nodes, element, outer)?;
     Ok(ns != Namespace::Html || attributes > 0)
-}
-
-/// Which nodes are tried for an element.
-fn trying_for(
-    alloc: Global,
-    nodes: &[PlainNode<'_>],
-    by_keys: bool,
-    ns: Namespace,
-    element: &PlainElement<'_>,
-    outer: &[PlainElement<'_>],
-) -> Result<Trying, AllocError>
-    requires { (element_shown element.now).tag.namespace ≡ ns }
-    ensures { IfOk result (λ trying. is_tried_in trying (element_shown element.now) (map element_shown outer.now)
-        ≡ answers.is_tried (selectors_shown by_keys nodes.now) (element_shown element.now)
-        (map element_shown outer.now)) }
-{
-    if !by_keys {
-        return Ok(Trying::All);
-    }
-    let open = some_left_open(alloc, nodes, element, outer)?;
-    Ok(Trying::Left {
-        at_once: ns != Namespace::Html || open,
-    })
 }
 
 /// The answer to a start tag that isn't dropped.
 fn report(
     alloc: Global,
     nodes: &[PlainNode<'_>],
-    trying: Trying,
     with_content: bool,
     asked: bool,
     element: &PlainElement<'_>,
@@ -223,13 +177,13 @@ fn report(
     ensures { IfOk result (λ told. answer_shown told ≡ answers.Started
         (map (λ id. record { id = id; with_content = with_content }) (answers.matching_ids (pairs_of nodes.now)
         (element_shown element.now) (map element_shown outer.now)))
-        asked (count_by (is_tried_in trying (element_shown element.now) (map element_shown outer.now))
+        asked (count_by (is_tried_in (map element_shown outer.now))
         (paths_of nodes.now))
-        (count_by (is_tried_open_in trying (element_shown element.now) (map element_shown outer.now))
+        (count_by (is_tried_open_in (element_shown element.now) (map element_shown outer.now))
         (paths_of nodes.now))) }
 {
     let ids = matching_ids(alloc, nodes, element, outer)?;
-    let (names, attributes) = counted_tries(alloc, nodes, trying, element, outer)?;
+    let (names, attributes) = counted_tries(alloc, nodes, element, outer)?;
     Ok(PlainAnswer::Started {
         matched: infos_of(alloc, &ids, with_content)?,
         asked,

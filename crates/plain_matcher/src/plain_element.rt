@@ -83,7 +83,7 @@ fn comparison_passes(
 }
 
 /// Whether an operator needs an operand and has an empty one.
-pub(crate) fn lacks_operand(operator: AttrSelectorOperator, operand: &[u8]) -> bool
+fn lacks_operand(operator: AttrSelectorOperator, operand: &[u8]) -> bool
     ensures { result ≡ (needs_operand operator && is_empty_text operand.now) }
 {
     needs_an_operand(operator) && is_empty(operand)

@@ -1,13 +1,9 @@
-//! Tests of lol_matcher and lol_explaining_matcher: small pages tag by tag, the lines that README shows, and a caller with a contract of its
-//! own. What a matcher explains is told by rows and by pages that are drawn, beside the definitions and beside a matcher.
+//! Tests of lol_matcher and lol_explaining_matcher: small pages tag by tag and rows of reasons, whose answers come from outside, so that a wrong
+//! definition fails them; the lines that README and the crates' pages show; and the texts of errors.
 #![tactic(auto)]
 
 #[cfg(test)]
-mod beside;
-#[cfg(test)]
 mod calls;
-#[cfg(test)]
-mod drawn;
 #[cfg(test)]
 mod explained_page;
 #[cfg(test)]

@@ -3,7 +3,6 @@
 
 use lol_base::Attributes;
 use lol_explaining_matcher::{ExplainingMatcher, MatcherError, Namespace, Reason, Started};
-use lol_matcher::Matcher;
 use std::alloc::AllocError;
 use test_kit::TagWord;
 
@@ -88,62 +87,4 @@ pub(crate) fn is_told(
         tell(matcher, tag, attributes, at_hand),
         Answer::Started(Err(_)) | Answer::Finished(Err(_))
     )
-}
-
-fn start_plainly(
-    matcher: &mut Matcher,
-    name: &str,
-    ns: Namespace,
-) -> Result<Started, MatcherError> {
-    matcher.start(name.as_bytes(), ns)
-}
-
-fn finish_plainly(
-    matcher: &mut Matcher,
-    attributes: &Attributes,
-    self_closing: bool,
-) -> Result<(), MatcherError> {
-    matcher.finish(attributes.aux_info(self_closing))
-}
-
-fn start_plainly_with(
-    matcher: &mut Matcher,
-    name: &str,
-    ns: Namespace,
-    attributes: &Attributes,
-    self_closing: bool,
-) -> Result<(), MatcherError> {
-    matcher.start_with(name.as_bytes(), ns, attributes.aux_info(self_closing))
-}
-
-fn end_plainly(matcher: &mut Matcher, name: &str) {
-    matcher.end(name.as_bytes());
-}
-
-/// Tells a matcher that doesn't explain of a tag.
-pub(crate) fn tell_plainly(
-    matcher: &mut Matcher,
-    tag: &TagWord<'_>,
-    attributes: &Attributes,
-    at_hand: bool,
-) -> Answer {
-    if tag.ends {
-        end_plainly(matcher, tag.name);
-        return Answer::Ended;
-    }
-    if at_hand && tag.finish {
-        return Answer::Finished(start_plainly_with(
-            matcher,
-            tag.name,
-            tag.ns,
-            attributes,
-            tag.self_closing,
-        ));
-    }
-    match start_plainly(matcher, tag.name, tag.ns) {
-        Ok(Started::NeedsAttributes) if tag.finish => {
-            Answer::Finished(finish_plainly(matcher, attributes, tag.self_closing))
-        }
-        started => Answer::Started(started),
-    }
 }

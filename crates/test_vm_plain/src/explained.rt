@@ -1,4 +1,4 @@
-//! Reasons that an explainer gives for what a machine reports, beside rows and beside those of the definitions.
+//! Reasons that an explainer gives for what a machine reports: rows told by hand, which a wrong definition of witnesses would fail.
 
 ghost use Rattle.std.specs.Prelude.{All};
 ghost use Rattle.lol_base.specs.StartTags.{RangesAreInside};
@@ -6,14 +6,14 @@ ghost use Rattle.lol_vm.specs.Views.{HasRangesInside};
 
 use lol_reasons::{Explainer, Reason, Texts};
 use lol_vm::{
-    Ast, AuxStartTagInfo, LocalName, MatchId, MatchInfo, Namespace, Selector, SelectorError,
-    SelectorMatchingVm, SharedMemoryLimiter, TagEvent,
+    Ast, AuxStartTagInfo, LocalName, MatchId, MatchInfo, Namespace, Selector, SelectorMatchingVm,
+    SharedMemoryLimiter, TagEvent,
 };
-use plain_matcher::{PlainReason, PlainText, events_of, plain_reasons};
+use plain_matcher::events_of;
 use std::alloc::{AllocError, Global};
 use std::process::Abort;
 use std::test::Fail;
-use test_kit::{Numbered, Random, TagWord, attributes_of, selectors, words_of};
+use test_kit::{Numbered, TagWord, attributes_of, words_of};
 
 /// Selectors with their ids, and tags.
 type Written<'t> = (&'t [(&'t str, u32)], &'t str);
@@ -277,10 +277,6 @@ fn is_reason(reason: &Reason, id: u32, text: usize, item: usize, witness: &[usiz
         && reason.witness.as_slice() == witness
 }
 
-fn is_plain(reason: &Reason, plain: &PlainReason) -> bool {
-    is_reason(reason, plain.id, plain.text, plain.item, &plain.witness)
-}
-
 fn is_expected(reason: &Reason, expected: &Expected) -> bool {
     let (id, text, item, witness) = *expected;
     is_reason(reason, id, text, item, witness)
@@ -318,227 +314,6 @@ fn last_has(alloc: Global, indexed: bool, row: &Row) -> Result<bool, Fail> {
         Some(reasons) => are_expected(reasons, expected),
         None => false,
     })
-}
-
-/// How many selectors are looked for in a document, and how many tags it has.
-#[derive(Clone, Copy)]
-struct Size {
-    selectors: usize,
-    tags: usize,
-}
-
-const LONG: Size = Size {
-    selectors: 6,
-    tags: 30,
-};
-
-const SHORT: Size = Size {
-    selectors: 2,
-    tags: 6,
-};
-
-const NAMES: &str = "a b p br svg:a svg:b/ /a /b /p a@class=x b@class=x";
-
-const COMPOUNDS: &str = "* a b p a b br .x a.x :not(a) :is(b,.x) :first-child p:nth-child(2n)";
-
-/// Selectors and tags that are drawn.
-#[derive(Drop)]
-struct Drawn {
-    random: Random,
-}
-
-impl Drawn {
-    /// One of the words of a text.
-    fn word<'t>(&mut self, text: &'t str) -> &'t str {
-        let words = u32::try_from(text.split_whitespace().count()).unwrap_or(1);
-        let at = self.random.below(words);
-        text.split_whitespace().nth(at as usize).unwrap_or("")
-    }
-
-    /// Adds a selector of one to four compounds.
-    fn push_item(&mut self, text: &mut String) -> Result<(), AllocError> {
-        text.push_str(self.word(COMPOUNDS))?;
-        for _step in 0..self.random.below(4) {
-            text.push_str(self.step())?;
-            text.push_str(self.word(COMPOUNDS))?;
-        }
-        Ok(())
-    }
-
-    fn step(&mut self) -> &'static str {
-        if self.random.below(2) == 0 {
-            " "
-        } else {
-            " > "
-        }
-    }
-
-    /// A list of one to three of them.
-    fn list(&mut self, alloc: Global) -> Result<String, AllocError> {
-        let mut text = String::new(alloc);
-        self.push_item(&mut text)?;
-        for _item in 0..self.random.below(3) {
-            text.push_str(", ")?;
-            self.push_item(&mut text)?;
-        }
-        Ok(text)
-    }
-
-    /// Lists under ids, of which several may be the same.
-    fn lists(&mut self, alloc: Global, count: usize) -> Result<Vec<(String, u32)>, AllocError> {
-        let mut lists = Vec::new(alloc);
-        for _selector in 0..count {
-            lists.push((self.list(alloc)?, self.random.below(4)))?;
-        }
-        Ok(lists)
-    }
-
-    fn tags(&mut self, alloc: Global, count: usize) -> Result<Vec<TagWord<'static>>, AllocError> {
-        let mut tags = Vec::new(alloc);
-        for _tag in 0..count {
-            tags.push(TagWord::of(self.word(NAMES)))?;
-        }
-        Ok(tags)
-    }
-}
-
-fn parsed(alloc: Global, texts: &[(&str, u32)]) -> Result<Vec<Selector>, SelectorError> {
-    let mut parsed = Vec::new(alloc);
-    for (text, _) in texts {
-        parsed.push(Selector::from_str(alloc, text)?)?;
-    }
-    Ok(parsed)
-}
-
-/// These selectors, each as a text under its id.
-fn plain_texts<'p>(
-    alloc: Global,
-    parsed: &'p [Selector],
-    texts: &[(&str, u32)],
-) -> Result<Vec<PlainText<'p>>, AllocError> {
-    let mut plain_texts = Vec::new(alloc);
-    for (selector, (_, id)) in parsed.iter().zip(texts) {
-        plain_texts.push(PlainText { id: *id, selector })?;
-    }
-    Ok(plain_texts)
-}
-
-/// The reasons by the definitions.
-fn plainly(
-    alloc: Global,
-    ast: &Ast,
-    plain_texts: &[PlainText<'_>],
-    tags: &[TagWord<'_>],
-) -> Result<Vec<Vec<PlainReason>>, AllocError> {
-    let attributes = attributes_of(alloc, tags)?;
-    let events = events_of(alloc, tags, &attributes)?;
-    plain_reasons(alloc, ast, false, plain_texts, &events)
-}
-
-/// The same for texts that aren't read yet.
-fn plainly_of(
-    alloc: Global,
-    texts: &[(&str, u32)],
-    tags: &[TagWord<'_>],
-) -> Result<Vec<Vec<PlainReason>>, SelectorError> {
-    let ast = selectors(alloc, texts)?;
-    let parsed = parsed(alloc, texts)?;
-    let plain_texts = plain_texts(alloc, &parsed, texts)?;
-    Ok(plainly(alloc, &ast, &plain_texts, tags)?)
-}
-
-fn are_plain(told: &[Reason], plain: &[PlainReason]) -> bool {
-    if told.len() != plain.len() {
-        return false;
-    }
-    for (one, other) in told.iter().zip(plain) {
-        if !is_plain(one, other) {
-            return false;
-        }
-    }
-    true
-}
-
-/// For how many tags, from the first on, the reasons are these.
-fn count_plain(told: &[Vec<Reason>], plain: &[Vec<PlainReason>]) -> usize {
-    let mut count = 0usize;
-    for (told, plain) in told.iter().zip(plain) {
-        if !are_plain(told, plain) {
-            return count;
-        }
-        count = count.saturating_add(1);
-    }
-    count
-}
-
-fn count_reasons(told: &[Vec<Reason>]) -> usize {
-    let mut count = 0usize;
-    for reasons in told {
-        count = count.saturating_add(reasons.len());
-    }
-    count
-}
-
-/// Expects these reasons of each tag.
-fn expect_plain(rt: &impl Abort, told: &[Vec<Reason>], plain: &[Vec<PlainReason>]) {
-    assert!(rt; told.len() == plain.len());
-    let count = count_plain(told, plain);
-    assert!(rt; count == told.len(), "tag {count}");
-}
-
-/// Expects the reasons that the definitions have. Answers how many there are.
-fn compare(
-    rt: &impl Abort,
-    alloc: Global,
-    texts: &[(&str, u32)],
-    indexed: bool,
-    tags: &[TagWord<'_>],
-) -> Result<usize, Fail> {
-    let told = reasons_of_tags(alloc, texts, indexed, tags)?;
-    let plain = plainly_of(alloc, texts, tags)?;
-    expect_plain(rt, &told, &plain);
-    Ok(count_reasons(&told))
-}
-
-fn pairs_of(alloc: Global, lists: &[(String, u32)]) -> Result<Vec<(&str, u32)>, AllocError> {
-    let mut texts = Vec::new(alloc);
-    for (text, id) in lists {
-        texts.push((text.as_str(), *id))?;
-    }
-    Ok(texts)
-}
-
-fn compare_drawn(rt: &impl Abort, alloc: Global, seed: u64, size: Size) -> Result<usize, Fail> {
-    let mut drawn = Drawn {
-        random: Random::new(seed),
-    };
-    let lists = drawn.lists(alloc, size.selectors)?;
-    let texts = pairs_of(alloc, &lists)?;
-    let tags = drawn.tags(alloc, size.tags)?;
-    compare(rt, alloc, &texts, seed % 2 == 0, &tags)
-}
-
-/// Compares documents of this size, and answers how many reasons they have.
-fn compare_all(rt: &impl Abort, alloc: Global, documents: u64, size: Size) -> Result<usize, Fail> {
-    let mut count = 0usize;
-    for seed in 0..documents {
-        count = count.saturating_add(compare_drawn(rt, alloc, seed, size)?);
-    }
-    Ok(count)
-}
-
-#[test]
-fn agree_with_the_definitions(rt: HostRuntime) -> Result<(), Fail> {
-    let count = compare_all(&rt, rt.alloc(), 200, LONG)?;
-    assert!(rt; count > 5_000, "{count} reasons");
-    Ok(())
-}
-
-#[test]
-fn agree_on_short_documents(rt: HostRuntime) -> Result<(), Fail> {
-    let count = compare_all(&rt, rt.alloc(), 5_000, SHORT)?;
-    assert!(rt; count > 5_000, "{count} reasons");
-    Ok(())
 }
 
 fn check_rows(rt: &impl Abort, alloc: Global, rows: &[Row]) -> Result<(), Fail> {

@@ -1,4 +1,5 @@
-//! Random tags over random selectors, told to the machine, with rows and without, and answered plainly.
+//! Random runs of the machine beside the plain program of the definitions, so that a machine that refuses at will, or that the compiler gets wrong,
+//! is found.
 
 ghost use Rattle.std.specs.Prelude.{All};
 ghost use Rattle.lol_vm.specs.Views.{HasRangesInside};
@@ -12,11 +13,11 @@ use std::test::Fail;
 use test_kit::{Random, TagWord, attributes_of};
 
 /// How many documents there are, how many selectors are looked for in each of them, and how many tags it has.
-const DOCUMENTS: u64 = 12;
+const DOCUMENTS: u64 = 1_000;
 
-const SELECTORS: usize = 20;
+const SELECTORS: usize = 8;
 
-const TAGS: usize = 100;
+const TAGS: usize = 12;
 
 /// The names of tags, separated by spaces as all that is picked from.
 const NAMES: &str = "a b P br esi:include abcdefghijklmn";
@@ -166,79 +167,7 @@ fn expect_agreement(rt: &impl Abort, seed: u64, reports: &[TagReport], told: &[P
     assert!(rt; count == told.len(), "document {seed}, tag {count}");
 }
 
-/// Whether two reports say the same but for tries.
-fn are_alike(report: &TagReport, other: &TagReport) -> bool {
-    match report {
-        TagReport::Started { matched, asked, .. } => match other {
-            TagReport::Started {
-                matched: ids,
-                asked: was_asked,
-                ..
-            } => matched.as_slice() == ids.as_slice() && *asked == *was_asked,
-            _ => false,
-        },
-        TagReport::Dropped => matches!(other, TagReport::Dropped),
-        TagReport::Ended { closed } => match other {
-            TagReport::Ended { closed: numbers } => closed.as_slice() == numbers.as_slice(),
-            _ => false,
-        },
-    }
-}
-
-/// How many tries by names reports count.
-fn name_tries(reports: &[TagReport]) -> u64 {
-    let mut names: u64 = 0;
-    for report in reports {
-        if let TagReport::Started { tries, .. } = report {
-            names = names.saturating_add(tries.names());
-        }
-    }
-    names
-}
-
-/// How many reports, from the first on, say the same but for tries.
-fn count_alike(reports: &[TagReport], others: &[TagReport]) -> usize {
-    let mut count = 0usize;
-    for (report, other) in reports.iter().zip(others) {
-        if !are_alike(report, other) {
-            return count;
-        }
-        count = count.saturating_add(1);
-    }
-    count
-}
-
-/// Rows change nothing but how many nodes are tried.
-fn expect_fewer_tries(
-    rt: &impl Abort,
-    seed: u64,
-    reports: &[TagReport],
-    without_rows: &[TagReport],
-) {
-    assert!(rt; reports.len() == without_rows.len());
-    let count = count_alike(reports, without_rows);
-    assert!(rt; count == reports.len(), "document {seed}, tag {count}");
-    let fewer = name_tries(reports) < name_tries(without_rows);
-    assert!(rt; fewer, "document {seed}");
-}
-
-/// What the machine reports, with rows or without, which is what the plain matcher answers.
-fn agreed(
-    rt: &impl Abort,
-    alloc: Global,
-    seed: u64,
-    ast: Ast,
-    events: &[TagEvent<'_>],
-) -> Result<Vec<TagReport>, Fail>
-    requires { All HasRangesInside events.now }
-{
-    let told = plain_answers(alloc, &ast, ast.has_rows(), has_esi(seed), events)?;
-    let reports = reports_of_events(alloc, ast, has_esi(seed), events)?;
-    expect_agreement(rt, seed, &reports, &told);
-    Ok(reports)
-}
-
-/// With the drawn selectors, and with the same with rows.
+/// Expects the machine to answer as the plain program does.
 fn compare_events(
     rt: &impl Abort,
     alloc: Global,
@@ -248,10 +177,9 @@ fn compare_events(
 ) -> Result<(), Fail>
     requires { All HasRangesInside events.now }
 {
-    let reports = agreed(rt, alloc, seed, ast, events)?;
-    let with_rows = Drawn::new(seed).selectors(alloc)?.with_rows();
-    let spared = agreed(rt, alloc, seed, with_rows, events)?;
-    expect_fewer_tries(rt, seed, &spared, &reports);
+    let told = plain_answers(alloc, &ast, has_esi(seed), events)?;
+    let reports = reports_of_events(alloc, ast, has_esi(seed), events)?;
+    expect_agreement(rt, seed, &reports, &told);
     Ok(())
 }
 

@@ -1,4 +1,4 @@
-use Rattle.std.proofs.Common.{◌≡◌, ◌++◌, ap, ◌∙◌, map}
+use Rattle.std.proofs.Common.{false, ◌≡◌, ◌++◌, ap, ◌∙◌, map}
 use Rattle.std.proofs.lemmas.Result.{IfOk-weaker}
 use Rattle.lol_program.specs.Asts.{trees_of}
 use Rattle.lol_program.specs.Paths.{First}
@@ -10,7 +10,6 @@ use Rattle.plain_matcher.proofs.plain.plain_answers.Goals as goal
 
 pub returns : goal.returns
 returns c =
-    let by_keys = c.args.by_keys in
     let esi = c.args.enable_esi_tags in
     let events = map event_of c.args.events.now in
     let trees = trees_of c.args.ast.now in
@@ -18,5 +17,5 @@ returns c =
     ap (map node_shown) c.deref.ensures.value ∙ c.in_ok-list_nodes.ensures
     ∙ (λ i. map node_shown (c.new-nodes.ensures.items i) ++ nodes_listed First (c.root.ensures i)) in
     IfOk-weaker c.answers_of.result _ _
-    (λ told is. is ∙ ap (λ nodes. answers (selectors_listed by_keys nodes) esi events) listed ∙ listed_answers trees by_keys esi events)
+    (λ told is. is ∙ ap (λ nodes. answers (selectors_listed false nodes) esi events) listed ∙ listed_answers trees false esi events)
     c.answers_of.ensures
