@@ -11,7 +11,7 @@ use Rattle.lol_tags.specs.declared.state.State.TheVariants.{Data, AttributeValue
 use Rattle.lol_tags.specs.declared.reader.TagReader.{TagReader}
 
 -- another byte than the one that leads away
-unlike : (b c d : ℕ) → Some d ≡ Some c → (b == c) ≡ false → (b == d) ≡ false
+pub unlike : (b c d : ℕ) → Some d ≡ Some c → (b == c) ≡ false → (b == d) ≡ false
 unlike b c d e h = let same : d ≡ c = cc in rw same h
 
 idle-next : (s : State) (c b : ℕ) (named is_script foreign : Bool) → stop s ≡ Some c → (b == c) ≡ false → next s b named is_script foreign ≡ s

@@ -49,15 +49,15 @@ unfolding attribute_step attribute_ended
 all-given P n each r [] o h = All-nil P
 all-given P n each r (b ∷ bytes) o h =
     all-with P r (completes r.state (next_of r b)) (given attribute_step attribute_ended (noted_attribute (next_of r b) r) bytes)
-        (each r o (omega arith))
-        (all-given P n each (noted_attribute (next_of r b) r) bytes (ordered-noted (next_of r b) r o) (omega arith))
+    (each r o (omega arith))
+    (all-given P n each (noted_attribute (next_of r b) r) bytes (ordered-noted (next_of r b) r o) (omega arith))
 
 all-outlines : (P : AttributeOutline → Type 0) (tag : List ℕ) (name_end : ℕ)
     → ((r : AttributeReader) → Ordered r → r.at < length tag → P (outline_at r)) → All P (outlines_of tag name_end)
 all-outlines P tag name_end each =
     all-given P (length tag) each (behind_name name_end) (drop name_end tag)
-        (record { name = omega arith; behind = omega arith; value = omega arith })
-        (omega (arith, length-drop name_end tag))
+    (record { name = omega arith; behind = omega arith; value = omega arith })
+    (omega (arith, length-drop name_end tag))
 
 value-inside : (tag : List ℕ) (r : AttributeReader) (c : Bool) → Ordered r → r.at < length tag
     → IsInside tag (if c then range r.value_start r.at else range r.name_end r.name_end)
@@ -66,9 +66,9 @@ value-inside tag r false o h = (omega arith, omega (arith, o.behind))
 
 outline-inside : (tag : List ℕ) (r : AttributeReader) → Ordered r → r.at < length tag → OutlineIsInside tag (outline_at r)
 outline-inside tag r o h = (
-      (o.name, omega (arith, o.behind)),
-      λ x e. let same : value_range r ≡ x = cc in subst (IsInside tag) same (value-inside tag r (is_value r.state) o h),
-    )
+  (o.name, omega (arith, o.behind)),
+  λ x e. let same : value_range r ≡ x = cc in subst (IsInside tag) same (value-inside tag r (is_value r.state) o h),
+)
 
 raw-inside : (tag : List ℕ) (r : AttributeReader) (q v : Bool) → Ordered r → r.at < length tag
     → IsInside tag (range r.name_start (if q then r.at + 1 else (if v then range r.value_start r.at else range r.name_end r.name_end).end))
@@ -91,6 +91,6 @@ pub pushed-inside : {A E : Type 0} (tag : List ℕ) (name_end : ℕ) (r : Attrib
 pushed-inside tag name_end r (Err e) old new s h = h
 pushed-inside tag name_end r (Ok x) old new s h = λ before.
     let same : new ≡ old ++ outlines_of tag name_end =
-        h ∙ ap (λ bytes. old ++ given attribute_step attribute_ended r bytes) (take_rest tag name_end)
-        ∙ ap (λ q. old ++ given attribute_step attribute_ended q (drop name_end tag)) s in
+    h ∙ ap (λ bytes. old ++ given attribute_step attribute_ended r bytes) (take_rest tag name_end)
+    ∙ ap (λ q. old ++ given attribute_step attribute_ended q (drop name_end tag)) s in
     subst (All (OutlineIsInside tag)) (sym same) (All-append (OutlineIsInside tag) old (outlines_of tag name_end) before (inside tag name_end))

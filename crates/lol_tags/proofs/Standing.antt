@@ -229,7 +229,7 @@ unfolding Named
 advanced-named before r b s true o h f e =
     let from = or_cases (has_name r.state) (spells s && (is_at_start r.state || is_at_slash r.state)) (name-before r.state s f e) in
     let low = spelled-named r before h (elim from [
-        inl x ↦ inl x
+      | inl x ↦ inl x
       | inr x ↦ inr (or_cases (is_at_start r.state) (is_at_slash r.state) (and_right (spells s) (is_at_start r.state || is_at_slash r.state) x))
     ]) in
     subst (λ (q : TagReader). Named q (r.at + 1)) (sym (noted-name s r b o)) (low, omega arith)

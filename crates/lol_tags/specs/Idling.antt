@@ -14,6 +14,12 @@ stop BogusComment = Some 62
 stop CdataSection = Some 93
 stop _ = None
 
+-- the same of quoted values alone, where an attribute's bytes are read
+unfoldable pub quote : State → Option ℕ
+quote AttributeValueDoubleQuoted = Some 34
+quote AttributeValueSingleQuoted = Some 39
+quote _ = None
+
 -- none of these bytes is that one
 abbrev pub Lacks : ℕ → List ℕ → Type 0
 Lacks c [] = Unit {0}

@@ -1,10 +1,12 @@
 //! The attributes of a tag, found when they are asked for.
 
-ghost use Rattle.std.specs.Prelude.{◌≡◌, ◌+◌, ◌++◌, ◌<◌, ◌^◌, length, take, All, OnOk, OnErr};
+ghost use Rattle.std.specs.Prelude.{◌≡◌, ◌+◌, ◌++◌, ◌<◌, ◌≤◌, ◌^◌, [], length, take, All, OnOk, OnErr};
 ghost use Rattle.lol_base.specs.StartTags.{OutlineIsInside};
-ghost use Rattle.lol_tags.specs.Runs.{given};
+ghost use Rattle.lol_tags.specs.Runs.{with_some, run, given};
 ghost use Rattle.lol_tags.specs.Attributes.{is_attribute_name, is_in_attribute, is_quoted, is_value, begins, completes, behind_name, noted_attribute, outline_at, attribute_step, attribute_ended, outlines_of};
+ghost use Rattle.lol_tags.specs.Idling.{quote};
 
+use crate::reader::idle_len;
 use crate::state::State;
 use lol_base::{AttributeBuffer, AttributeOutline, Range};
 use std::alloc::AllocError;
@@ -54,8 +56,11 @@ fn push_found(
     ensures outlines { OnOk result (outlines.new.items ≡ outlines.old.items ++ given attribute_step attribute_ended reader rest.now) }
     ensures kept { take (length outlines.old.items) outlines.new.items ≡ outlines.old.items }
 {
-    for b in rest {
-        if let Some(outline) = reader.step(*b) {
+    let mut i = 0;
+    while i < rest.len() {
+        let (taken, found) = reader.read_part(&rest[i..]);
+        i += taken;
+        if let Some(outline) = found {
             outlines.push(outline)?;
         }
     }
@@ -74,6 +79,43 @@ impl AttributeReader {
             name_end,
             value_start: name_end,
         }
+    }
+
+    // Reads up to the quote that ends a quoted value, and one byte: how many bytes, and the attribute that the last one ends.
+    #[inline(always)]
+    fn read_part(&mut self, rest: &[u8]) -> (usize, Option<AttributeOutline>)
+        requires some { 0 < length rest.now }
+        requires room { self.old.at + length rest.now < 2 ^ 64 }
+        ensures moved { 0 < result.0 }
+        ensures within { result.0 ≤ length rest.now }
+        ensures after { self.new ≡ run attribute_step self.old (take result.0 rest.now) }
+        ensures outline { with_some result.1 [] ≡ given attribute_step attribute_ended self.old (take result.0 rest.now) }
+        ensures at { self.new.at ≡ self.old.at + result.0 }
+    {
+        let idle = self.skip(rest);
+        if idle < rest.len() {
+            let found = self.step(rest[idle]);
+            (idle + 1, found)
+        } else {
+            (idle, None)
+        }
+    }
+
+    // Skips the bytes of a quoted value that are at the front: how many.
+    #[inline(always)]
+    fn skip(&mut self, rest: &[u8]) -> usize
+        requires room { self.old.at + length rest.now < 2 ^ 64 }
+        ensures within { result ≤ length rest.now }
+        ensures after { self.new ≡ run attribute_step self.old (take result rest.now) }
+        ensures none { given attribute_step attribute_ended self.old (take result rest.now) ≡ [] }
+        ensures at { self.new.at ≡ self.old.at + result }
+    {
+        let Some(quote) = quote(self.state) else {
+            return 0;
+        };
+        let idle = idle_len(quote, rest);
+        self.at += idle;
+        idle
     }
 
     // One byte: the attribute that it ends, if it ends one.
@@ -188,6 +230,19 @@ fn is_quoted(state: State) -> bool
         State::AttributeValueDoubleQuoted => true,
         State::AttributeValueSingleQuoted => true,
         _ => false,
+    }
+}
+
+// The byte that ends a quoted value.
+#[inline(always)]
+#[tactic(auto, unfolding(crate::specs::Idling::quote))]
+fn quote(state: State) -> Option<u8>
+    ensures { result ≡ quote state }
+{
+    match state {
+        State::AttributeValueDoubleQuoted => Some(b'"'),
+        State::AttributeValueSingleQuoted => Some(b'\''),
+        _ => None,
     }
 }
 

@@ -427,7 +427,7 @@ impl TagReader {
 
 // How many bytes at the front aren't this one.
 #[inline(always)]
-fn idle_len(stop: u8, rest: &[u8]) -> usize
+pub(crate) fn idle_len(stop: u8, rest: &[u8]) -> usize
     ensures within { result ≤ length rest.now }
     ensures lacks { Lacks stop (take result rest.now) }
 {
