@@ -1,5 +1,5 @@
 -- The tags of a stream of bytes, as places in it.
-use Rattle.std.specs.Prelude.{ℕ, ◌+◌, ◌*◌, ◌%◌, ◌^◌, Bool, true, false, ◌&&◌, ◌||◌, ◌==◌, nat_lt, if◌then◌else◌, List, [], ◌∷◌, fold, Option, Some, None, codes}
+use Rattle.std.specs.Prelude.{ℕ, ◌+◌, ◌*◌, ◌%◌, ◌^◌, Bool, true, false, ◌&&◌, ◌||◌, ◌==◌, nat_lt, if◌then◌else◌, List, fold, Option, Some, None, codes}
 use Rattle.std.specs.Str.{byte}
 use Rattle.lol_tags.specs.Runs.{run, given}
 use Rattle.lol_tags.specs.States.{is_letter, next, is_in_tag, is_self_closing}

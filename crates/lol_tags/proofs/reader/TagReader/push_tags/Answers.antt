@@ -1,5 +1,5 @@
 -- A part more is read.
-use Rattle.std.proofs.Common.{◌++◌, ◌≡◌, List, Option, [], Some, sym, ap, ◌∙◌, arith}
+use Rattle.std.proofs.Common.{◌++◌, ◌≡◌, Option, [], sym, ap, ◌∙◌, arith}
 use Rattle.std.proofs.lemmas.List.{append-nil}
 use Rattle.lol_tags.specs.Runs.{with_some}
 use Rattle.lol_tags.specs.Reading.{step, ended}
