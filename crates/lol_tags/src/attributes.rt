@@ -33,7 +33,8 @@ pub fn push_outlines(
     outlines: &mut AttributeBuffer,
 ) -> Result<(), AllocError>
     ensures outlines { OnOk result (outlines.new.items ≡ outlines.old.items ++ outlines_of tag.now name_end) }
-    ensures inside { OnOk result (All (OutlineIsInside tag.now) outlines.old.items → All (OutlineIsInside tag.now) outlines.new.items) }
+    ensures inside { OnOk result (All (OutlineIsInside tag.now) outlines.old.items
+        → All (OutlineIsInside tag.now) outlines.new.items) }
     ensures refused { OnErr result (outlines.new.items ≡ outlines.old.items) }
 {
     if name_end > tag.len() {
@@ -53,7 +54,8 @@ fn push_found(
     outlines: &mut AttributeBuffer,
 ) -> Result<(), AllocError>
     requires { reader.at + length rest.now < 2 ^ 64 }
-    ensures outlines { OnOk result (outlines.new.items ≡ outlines.old.items ++ given attribute_step attribute_ended reader rest.now) }
+    ensures outlines { OnOk result (outlines.new.items
+        ≡ outlines.old.items ++ given attribute_step attribute_ended reader rest.now) }
     ensures kept { take (length outlines.old.items) outlines.new.items ≡ outlines.old.items }
 {
     let mut i = 0;
@@ -89,7 +91,8 @@ impl AttributeReader {
         ensures moved { 0 < result.0 }
         ensures within { result.0 ≤ length rest.now }
         ensures after { self.new ≡ run attribute_step self.old (take result.0 rest.now) }
-        ensures outline { with_some result.1 [] ≡ given attribute_step attribute_ended self.old (take result.0 rest.now) }
+        ensures outline { with_some result.1 []
+            ≡ given attribute_step attribute_ended self.old (take result.0 rest.now) }
         ensures at { self.new.at ≡ self.old.at + result.0 }
     {
         let idle = self.skip(rest);

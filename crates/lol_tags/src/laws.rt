@@ -26,8 +26,10 @@ pub fn tags_stand_apart()
 /// bytes. So it is for each reader, however it came to have read them.
 pub fn unfinished_tags_are_kept()
     ensures fresh { (scripting : Bool) → HasRead [] (fresh scripting) }
-    ensures after { (before bytes : List ℕ) (r : TagReader) → HasRead before r → HasRead (before ++ bytes) (after r bytes) }
-    ensures told { (before : List ℕ) (foreign : Bool) (r : TagReader) → HasRead before r → HasRead before (told_foreign foreign r) }
+    ensures after { (before bytes : List ℕ) (r : TagReader) → HasRead before r
+        → HasRead (before ++ bytes) (after r bytes) }
+    ensures told { (before : List ℕ) (foreign : Bool) (r : TagReader) → HasRead before r
+        → HasRead before (told_foreign foreign r) }
     ensures tags { (before bytes : List ℕ) (r : TagReader) → HasRead before r
         → StandApart (before ++ bytes) (needed_from r) (tags_from r bytes) }
 {}
@@ -36,14 +38,16 @@ pub fn unfinished_tags_are_kept()
 /// or a CDATA section: bytes without it end no tag, and leave the reader as it is.
 pub fn bytes_that_lead_nowhere_end_no_tag()
     ensures text { (scripting : Bool) (bytes : List ℕ) → Lacks (byte "<") bytes → tags_of scripting bytes ≡ [] }
-    ensures none { (r : TagReader) (c : ℕ) (bytes : List ℕ) → stop r.state ≡ Some c → Lacks c bytes → tags_from r bytes ≡ [] }
+    ensures none { (r : TagReader) (c : ℕ) (bytes : List ℕ) → stop r.state ≡ Some c → Lacks c bytes
+        → tags_from r bytes ≡ [] }
     ensures stays { (r : TagReader) (c : ℕ) (bytes : List ℕ) → stop r.state ≡ Some c → Lacks c bytes
         → after r bytes ≡ record r { at = r.at + length bytes } }
 {}
 
 /// What stands in a comment is no tag: here without `-`, and not a comment that its first `>` ends.
 pub fn comments_have_no_tags()
-    ensures { (r : TagReader) (first : ℕ) (bytes : List ℕ) → r.state ≡ Data → (first == byte ">") ≡ false → Lacks (byte "-") (first ∷ bytes)
+    ensures { (r : TagReader) (first : ℕ) (bytes : List ℕ) → r.state ≡ Data → (first == byte ">") ≡ false
+        → Lacks (byte "-") (first ∷ bytes)
         → tags_from r (codes "<!--" ++ (first ∷ bytes ++ codes "-->")) ≡ [] }
 {}
 
@@ -56,5 +60,6 @@ pub fn cdata_sections_have_no_tags()
 /// The attributes of a tag stand inside it: each name and value, and each whole attribute.
 pub fn attributes_stand_inside()
     ensures parts { (tag : List ℕ) (name_end : ℕ) → All (OutlineIsInside tag) (outlines_of tag name_end) }
-    ensures whole { (tag : List ℕ) (name_end : ℕ) → All (λ outline. IsInside tag outline.raw_range) (outlines_of tag name_end) }
+    ensures whole { (tag : List ℕ) (name_end : ℕ)
+        → All (λ outline. IsInside tag outline.raw_range) (outlines_of tag name_end) }
 {}

@@ -47,7 +47,8 @@ pub fn places()
 
 /// Attributes: their names and values.
 pub fn attributes()
-    ensures { map (λ row. attributes_of row.tag row.name_end) attribute_rows ≡ map (λ row. row.attributes) attribute_rows }
+    ensures { map (λ row. attributes_of row.tag row.name_end) attribute_rows
+        ≡ map (λ row. row.attributes) attribute_rows }
 {}
 
 /// Places of attributes.
