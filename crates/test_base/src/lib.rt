@@ -1,4 +1,4 @@
-//! Tests of names, attributes, maps by name, limits, charged lists and sets of ids: rows whose answers come from outside, which definitions that
+//! Tests of names, attributes, charged lists and sets of ids: rows whose answers come from outside, which definitions that
 //! are wrong would fail, and an `Ok` of each call that can refuse, also at a great size.
 #![tactic(auto)]
 
@@ -6,8 +6,6 @@
 mod attributes;
 #[cfg(test)]
 mod limits;
-#[cfg(test)]
-mod name_maps;
 #[cfg(test)]
 mod names;
 #[cfg(test)]

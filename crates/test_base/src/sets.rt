@@ -11,16 +11,6 @@ pub(crate) fn expect(rt: &impl Abort, holds: Result<bool, AllocError>) -> Result
     Ok(())
 }
 
-/// Expects it of a row of a table.
-pub(crate) fn expect_row(
-    rt: &impl Abort,
-    row: usize,
-    holds: Result<bool, AllocError>,
-) -> Result<(), Fail> {
-    assert!(rt; holds?, "row {row}");
-    Ok(())
-}
-
 fn set_of(alloc: Global, ids: &[u32]) -> Result<DenseHashSet, AllocError> {
     let mut set = DenseHashSet::new(alloc);
     insert_all(&mut set, ids)?;

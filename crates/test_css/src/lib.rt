@@ -1,5 +1,5 @@
-//! Tests of the reader of selectors: what texts are read as, why they are refused, and what is printed. Rows whose answers come from outside,
-//! and each call that can refuse once with ample memory.
+//! Tests of the reader of selectors: whether texts are read, why they are refused and where, by rows whose answers come from outside, which wrong
+//! definitions would fail; and what is printed, which no contract says.
 #![tactic(auto)]
 
 #[cfg(test)]

@@ -1,18 +1,13 @@
-//! Numbers that look random, and names made of them.
+//! Numbers and letters that look random.
 
-ghost use Rattle.std.specs.Prelude.{◌≡◌, ◌<◌, ◌≢◌, ◌%◌};
+ghost use Rattle.std.specs.Prelude.{◌≡◌, ◌≢◌, ◌%◌};
 ghost use Rattle.test_kit.specs.Random.{next, upper};
-
-use std::alloc::{AllocError, Global};
 
 /// The letters that are drawn.
 const LETTERS: &[u8] = b"abcdefghijklmnopqrstuvwxyzABCDEFGHIJKLMNOPQRSTUVWXYZ";
 
-/// The letters and digits of a name that is numbered.
-const DIGITS: &[u8] = b"abcdefghijklmnopqrstuvwxyz123456";
-
 /// The next of a row of numbers that look random.
-pub fn next_random(state: u64) -> u64
+fn next_random(state: u64) -> u64
     ensures { result ≡ next state }
 {
     state
@@ -47,22 +42,6 @@ impl Random {
     pub fn letter(&mut self) -> char {
         letter_of(LETTERS, self.below(52))
     }
-}
-
-/// The name of a number. Two numbers have two names, also in lower case; it is a hash if the number is even.
-///
-/// # Errors
-/// `AllocError`, out of memory.
-pub fn name_of(alloc: Global, number: u32) -> Result<String, AllocError> {
-    let first = if number % 2 == 0 { "x" } else { "x_" };
-    let mut name = String::from_str(alloc, first)?;
-    // An odd factor, and all bits are written, so that no two numbers become one.
-    let mut rest = number.wrapping_mul(2_654_435_769).rotate_right(10);
-    for _digit in 0..7u32 {
-        name.push(letter_of(DIGITS, rest % 32))?;
-        rest = rest.rotate_right(5);
-    }
-    Ok(name)
 }
 
 fn letter_of(letters: &[u8], place: u32) -> char {

@@ -1,4 +1,4 @@
-//! The caller of the crate's page, as it is written there.
+//! The caller of the crate's page, as it is written there: one that isn't accepted by the compiler would stay on the page.
 
 use crate::pages::{is_reason, matcher_of};
 use lol_base::Attributes;

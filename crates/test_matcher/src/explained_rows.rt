@@ -1,4 +1,4 @@
-//! Rows: selectors and tags, and the reasons for the last tag.
+//! Rows: selectors and tags, and the reasons for the last tag, told by hand: a wrong definition of witnesses, with its code, fails.
 
 use crate::pages::{Selectors, is_reason, matcher_of, reports_ids_of};
 use crate::told::{explain, is_told};

@@ -1,8 +1,8 @@
-//! A matcher on small pages.
+//! A matcher on small pages, once through each call: one that refuses always meets its contract; and the texts of its errors.
 
 use lol_matcher::{
-    AddError, AttributeBuffer, AttributeOutline, Attributes, AuxStartTagInfo, Bytes, ElementValue,
-    ErrorLocation, Matcher, MatcherBuilder, MatcherError, Namespace, Range, SelectorError, Started,
+    AddError, Attributes, AuxStartTagInfo, ElementValue, ErrorLocation, Matcher, MatcherBuilder,
+    MatcherError, Namespace, SelectorError, Started,
 };
 use std::alloc::{AllocError, Global};
 use std::process::Abort;
@@ -146,134 +146,6 @@ fn written(alloc: Global, name: &[u8], value: Option<&[u8]>) -> Result<Attribute
     Ok(attributes)
 }
 
-/// Whether `div`, whose attributes are asked for, is refused for want of room, and nothing is answered from then on.
-fn is_refused(matcher: &mut Matcher, none: &Attributes) -> bool {
-    waits(matcher, "div", Namespace::Html)
-        && finish(matcher, none, false) == Err(MatcherError::MemoryLimitExceeded)
-        && has_ids(matcher, &[])
-        && matcher.has_failed()
-        && refuses(matcher, "br", MatcherError::Failed)
-        && finish(matcher, none, false) == Err(MatcherError::Failed)
-}
-
-/// Whether eight `div`s are reported.
-fn opens_eight(matcher: &mut Matcher, none: &Attributes) -> bool {
-    for _ in 0..8 {
-        if !reports_asked(matcher, ("div", Namespace::Html), none, false, &[0]) {
-            return false;
-        }
-    }
-    true
-}
-
-#[test]
-fn refuses_past_the_limit(rt: HostRuntime) -> Result<(), Fail> {
-    let none = Attributes::new(rt.alloc());
-    let mut matcher = matcher(rt.alloc(), &[("div", 0), (".a", 1)], 512, 64)?;
-    assert!(rt; opens_eight(&mut matcher, &none) && is_refused(&mut matcher, &none));
-    end(&mut matcher, "div");
-    assert!(rt; matcher.has_failed());
-    Ok(())
-}
-
-#[test]
-fn refuses_where_no_attributes_are_asked_for(rt: HostRuntime) -> Result<(), Fail> {
-    let mut matcher = matcher(rt.alloc(), &[("p", 7)], 7_999, 1_000)?;
-    assert!(rt; refuses(&mut matcher, "p", MatcherError::MemoryLimitExceeded));
-    assert!(rt; matcher.has_failed() && has_ids(&matcher, &[]));
-    Ok(())
-}
-
-/// The attribute `a`, with a value past the input's end.
-fn past_the_end(alloc: Global) -> Result<AttributeBuffer, Fail> {
-    let outline = AttributeOutline {
-        name: Range { start: 0, end: 1 },
-        value: Some(Range { start: 2, end: 4 }),
-        raw_range: Range { start: 0, end: 4 },
-    };
-    Ok(vec![in alloc; outline]?)
-}
-
-/// Whether attributes outside the input `a=b` are refused.
-fn refuses_outside(matcher: &mut Matcher, attributes: &AttributeBuffer) -> bool {
-    let outside = AuxStartTagInfo {
-        input: Bytes::new(b"a=b"),
-        attr_buffer: attributes,
-        self_closing: false,
-    };
-    finish_with(matcher, outside) == Err(MatcherError::OutsideInput)
-}
-
-/// Whether no tag is refused for such attributes but one that waits, which still waits then, and is finished with others.
-fn keeps_waiting(matcher: &mut Matcher, outside: &AttributeBuffer, inside: &Attributes) -> bool {
-    refuses_outside(matcher, outside)
-        && waits(matcher, "p", Namespace::Html)
-        && refuses_outside(matcher, outside)
-        && finish(matcher, inside, false).is_ok()
-        && has_ids(matcher, &[0])
-        && !matcher.has_failed()
-}
-
-#[test]
-fn keeps_a_tag_whose_ranges_lie_outside(rt: HostRuntime) -> Result<(), Fail> {
-    let outside = past_the_end(rt.alloc())?;
-    let inside = written(rt.alloc(), b"a", Some(b"b"))?;
-    let mut matcher = matcher(rt.alloc(), &[("[a=b]", 0)], 100_000, 64)?;
-    assert!(rt; keeps_waiting(&mut matcher, &outside, &inside));
-    Ok(())
-}
-
-/// Whether a tag that waits is dropped by the next tag, and by an end tag.
-fn drops(matcher: &mut Matcher, none: &Attributes) -> bool {
-    reports(matcher, "div", &[])
-        && waits(matcher, "i", Namespace::Html)
-        && reports(matcher, "b", &[0])
-        && waits_for_none(matcher, none)
-        && reports_no_end(matcher, "div")
-        && waits(matcher, "i", Namespace::Html)
-        && reports_no_end(matcher, "i")
-        && waits_for_none(matcher, none)
-}
-
-#[test]
-fn drops_a_tag_that_waits(rt: HostRuntime) -> Result<(), Fail> {
-    let none = Attributes::new(rt.alloc());
-    let texts = [("b:nth-child(2)", 0), ("i.a", 1), ("i b", 2)];
-    let mut matcher = matcher(rt.alloc(), &texts, 100_000, 64)?;
-    assert!(rt; drops(&mut matcher, &none));
-    Ok(())
-}
-
-/// A matcher that knows the names of ESI.
-fn with_esi(alloc: Global, texts: &[(&str, u32)]) -> Result<Matcher, Fail> {
-    let mut builder = builder_of(alloc, texts)?;
-    builder.enable_esi_tags(true);
-    Ok(builder.build()?)
-}
-
-/// Whether an element of this name has no content: `b` isn't inside it.
-fn is_void(matcher: &mut Matcher, name: &str) -> bool {
-    reports(matcher, name, &[]) && reports(matcher, "b", &[])
-}
-
-/// Whether void names and foreign elements that close themselves have nothing inside.
-fn knows_void_names(matcher: &mut Matcher, none: &Attributes) -> bool {
-    is_void(matcher, "BR")
-        && is_void(matcher, "esi:include")
-        && reports_asked(matcher, ("svg", Namespace::Svg), none, false, &[])
-        && reports_asked(matcher, ("rect", Namespace::Svg), none, true, &[1])
-        && reports(matcher, "b", &[])
-}
-
-#[test]
-fn knows_namespaces_and_void_names(rt: HostRuntime) -> Result<(), Fail> {
-    let none = Attributes::new(rt.alloc());
-    let texts = [("br b, rect b, esi\\:include b", 0), ("svg > rect", 1)];
-    let mut matcher = with_esi(rt.alloc(), &texts)?;
-    assert!(rt; knows_void_names(&mut matcher, &none));
-    Ok(())
-}
-
 /// A matcher of three nodes, `div`, `div p` and `div > p`, with rows from so many on.
 fn with_rows_from(alloc: Global, fewest: usize) -> Result<Matcher, Fail> {
     let mut builder = builder_of(alloc, &[("div p", 0), ("div > p", 1)])?;
@@ -393,35 +265,6 @@ fn hands_out_values_of_closed_elements(rt: HostRuntime) -> Result<(), Fail> {
     let mut handed_out = HandedOut::new(rt.alloc());
     assert!(rt; hands_out_all(&mut matcher, &mut handed_out));
     assert!(rt; handed_out.ids.as_slice() == [3, 4].as_slice());
-    Ok(())
-}
-
-/// Whether `p` is refused for want of room, and not opened.
-fn has_no_room(matcher: &mut Matcher<u64>) -> bool {
-    matcher.start(b"p", Namespace::Html) == Err(MatcherError::MemoryLimitExceeded)
-        && matcher.has_failed()
-        && !matcher.has_opened()
-}
-
-/// Whether eight elements are opened, and take the numbers from 0 on.
-fn takes_eight(matcher: &mut Matcher<u64>) -> bool {
-    for value in 0..8 {
-        if !opens(matcher, "p", true) || !replaces(matcher, Some(value), None) {
-            return false;
-        }
-    }
-    true
-}
-
-#[test]
-fn hands_out_values_after_a_refusal(rt: HostRuntime) -> Result<(), Fail> {
-    let builder = limited_builder(rt.alloc(), &[("p", 0)], 128, 16)?;
-    let mut matcher = numbering(builder)?;
-    assert!(rt; takes_eight(&mut matcher) && has_no_room(&mut matcher));
-    let mut handed_out = HandedOut::new(rt.alloc());
-    close(&mut matcher, "p", &mut handed_out);
-    close(&mut matcher, "p", &mut handed_out);
-    assert!(rt; handed_out.has_values(&[Some(7), Some(6)]));
     Ok(())
 }
 

@@ -1,4 +1,4 @@
-//! The caller of the crate's page that keeps values, as it is written there.
+//! The caller of the crate's page that keeps values, as it is written there: one that isn't accepted by the compiler would stay on the page.
 
 use lol_matcher::{ElementValue, Matcher, Namespace, Started};
 use std::process::Abort;

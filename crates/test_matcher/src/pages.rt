@@ -1,4 +1,4 @@
-//! Explaining matchers, and their reasons.
+//! Explaining matchers, and their reasons: what the rows and the page are told with.
 
 use lol_explaining_matcher::{
     AddError, ExplainingMatcher, ExplainingMatcherBuilder, MatchInfo, Reason,

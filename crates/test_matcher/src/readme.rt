@@ -1,4 +1,4 @@
-//! README's lines.
+//! README's lines: what isn't accepted by the compiler would stay there.
 
 use lol_matcher::{Attributes, MatchInfo, Matcher, Namespace, Started};
 use std::alloc::{AllocError, Global};

@@ -1,4 +1,4 @@
-//! A caller of a matcher, with a contract of its own.
+//! A caller of a matcher, with a contract of its own: one that the public clauses don't suffice for isn't proved.
 
 ghost use Rattle.std.specs.Prelude.{◌↔◌, ◌<◌, IfOk, IsTrue, length, true};
 ghost use Rattle.lol_matcher.specs.Answering.{reported_in};

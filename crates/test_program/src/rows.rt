@@ -120,11 +120,9 @@ enum Question<'q> {
     Counted(&'q [Row<'q>]),
     /// Whether they leave these addresses of tags.
     Leaves(&'q [LeftRow<'q>]),
-    /// Whether they tell keys of one hash apart.
-    TellsApart,
 }
 
-use Question::{Counted, Leaves, TellsApart};
+use Question::{Counted, Leaves};
 
 /// Expects the rows of selectors, one on each line of texts, to answer as they should.
 fn check(
@@ -146,7 +144,6 @@ fn expect_answer(
     match question {
         Counted(rows) => expect_counted(rt, alloc, tried, rows),
         Leaves(rows) => expect_left(rt, alloc, tried, rows),
-        TellsApart => expect_told_apart(rt, alloc, tried),
     }
 }
 
@@ -283,53 +280,6 @@ fn leave_the_same_of_a_long_range(rt: HostRuntime) -> Result<(), Fail> {
     check(&rt, rt.alloc(), &[SELECTORS, OTHERS], Counted(&ROWS))
 }
 
-/// The program of `SELECTORS`, by a compiler with rows or without, and of a tree with rows or without.
-fn made(alloc: Global, by_compiler: bool, by_tree: bool) -> Result<Program, Fail> {
-    let mut ast = Ast::new(alloc);
-    if by_tree {
-        ast = ast.with_rows();
-    }
-    add_lines(alloc, &mut ast, SELECTORS)?;
-    let mut compiler = Compiler::new(alloc);
-    if by_compiler {
-        compiler = compiler.with_rows();
-    }
-    Ok(compiler.compile(ast)?)
-}
-
-/// Whether a program has rows, which leave what is counted by hand.
-fn has_its_rows(
-    alloc: Global,
-    mut program: Program,
-    wanted: &[Row<'_>],
-) -> Result<bool, AllocError> {
-    match program.rows.take() {
-        Some(rows) => are_rows(alloc, &WithRows { program, rows }, wanted),
-        None => Ok(false),
-    }
-}
-
-/// Whether the program of a compiler and a tree has its rows where one of these was asked for them, and none otherwise.
-fn has_rows_as_asked(
-    alloc: Global,
-    by_compiler: bool,
-    by_tree: bool,
-    wanted: &[Row<'_>],
-) -> Result<bool, Fail> {
-    let program = made(alloc, by_compiler, by_tree)?;
-    Ok(has_its_rows(alloc, program, wanted)? == (by_compiler || by_tree))
-}
-
-#[test]
-fn are_made_where_they_are_asked_for(rt: HostRuntime) -> Result<(), Fail> {
-    for by_tree in [false, true] {
-        for by_compiler in [false, true] {
-            assert!(rt; has_rows_as_asked(rt.alloc(), by_compiler, by_tree, &ROWS)?);
-        }
-    }
-    Ok(())
-}
-
 fn has_open(tried: &WithRows, range: &Range<usize>, name: &LocalName<'_>) -> bool {
     let instructions = tried.program.instructions.as_slice();
     tried
@@ -351,55 +301,6 @@ const PLAIN: &str = "\
     h5:nth-child(5)\nh5:nth-child(6)\nh5:nth-child(7)\nh5:nth-child(8)\n\
     h6:nth-child(1)\nh6:nth-child(2)\nh6:nth-child(3)\nh6:nth-child(4)\n\
     h6:nth-child(5)\nh6:nth-child(6)\nh6:nth-child(7)\nh6:nth-child(8)";
-
-/// The hash of the class of a tag `x`.
-fn class_hash(alloc: Global, rows: &Rows, class: &str) -> Result<Option<u32>, AllocError> {
-    let attributes = attributes(alloc, &[("class", class)])?;
-    let matcher = matcher(&attributes);
-    let hashes = hashes(alloc, rows, &LocalName::new(b"x"), Some(&matcher))?;
-    Ok(hashes.get(2).copied())
-}
-
-fn are_of_one_hash(
-    alloc: Global,
-    rows: &Rows,
-    class: &str,
-    other: &str,
-) -> Result<bool, AllocError> {
-    let hash = class_hash(alloc, rows, class)?;
-    Ok(hash.is_some() && hash == class_hash(alloc, rows, other)?)
-}
-
-/// Whether a tag `x` with this class leaves these addresses.
-fn leaves_of_class(
-    alloc: Global,
-    tried: &WithRows,
-    class: &str,
-    wanted: &[u32],
-) -> Result<bool, AllocError> {
-    leaves(alloc, tried, &("x", &[("class", class)]), wanted)
-}
-
-/// Whether tags of two classes of one hash leave what is theirs, of selectors of both among others.
-fn are_told_apart(alloc: Global, tried: &WithRows) -> Result<bool, AllocError> {
-    Ok(
-        are_of_one_hash(alloc, &tried.rows, "c27820", "c154553")?
-            && leaves_of_class(alloc, tried, "c27820", &[0, 50])?
-            && leaves_of_class(alloc, tried, "c154553", &[49, 51])?,
-    )
-}
-
-fn expect_told_apart(rt: &impl Abort, alloc: Global, tried: &WithRows) -> Result<(), Fail> {
-    assert!(rt; are_told_apart(alloc, tried)?);
-    Ok(())
-}
-
-/// Keys that share a hash are looked at one by one.
-#[test]
-fn tell_keys_of_one_hash_apart(rt: HostRuntime) -> Result<(), Fail> {
-    let others = "x.c154553\nx.c27820\n.c154553\np.c27820";
-    check(&rt, rt.alloc(), &[".c27820", PLAIN, others], TellsApart)
-}
 
 /// After the plain ones, from 48: a part of a value, one without case, one too short, a part of a second test, and a part of a word.
 const PARTS: &str = "\

@@ -1,4 +1,4 @@
-//! Attributes that are built from names and values.
+//! Attributes that are built from names and values: each request for memory can be refused.
 
 use crate::outcome::{Met, Stop, TURNS, expect};
 use crate::trees::attribute;

@@ -1,4 +1,4 @@
-//! Programs and machines of selectors.
+//! Programs and machines of selectors: each request for memory can be refused.
 
 ghost use Rattle.std.specs.Prelude.{◌≡◌};
 

@@ -1,4 +1,4 @@
-//! Runs of scripts that never end.
+//! Runs of scripts that never end: each request for memory can be refused.
 
 use crate::outcome::{Stop, expect};
 use lol_script::{Counted, RunFault, run};

@@ -1,4 +1,4 @@
-//! Reasons of a machine's report.
+//! Reasons of a machine's report: each request for memory can be refused.
 
 use crate::element::{Element, ITEM_BYTES};
 use crate::outcome::{Met, Stop, TURNS, expect};

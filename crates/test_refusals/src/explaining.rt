@@ -1,4 +1,4 @@
-//! The life of a matcher that explains.
+//! The life of a matcher that explains: each request for memory can be refused.
 
 use crate::explained::are_both;
 use crate::lists::are_ids;

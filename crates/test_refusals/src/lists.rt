@@ -1,4 +1,4 @@
-//! Sets of ids, and lists with charged slots.
+//! Sets of ids, and lists with charged slots: each request for memory can be refused.
 
 ghost use Rattle.std.specs.Prelude.{◌≡◌};
 

@@ -1,4 +1,4 @@
-//! Start tags of a machine.
+//! Start tags of a machine: each request for memory can be refused.
 
 ghost use Rattle.std.specs.Prelude.{◌≡◌};
 ghost use Rattle.lol_base.specs.StartTags.{RangesAreInside};

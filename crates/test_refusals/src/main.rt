@@ -1,4 +1,5 @@
-//! Calls that take memory, each under a name, with what has to stand after a refusal: it runs the one that standard input names, or all.
+//! Calls that take memory, each under a name, with what has to stand after a refusal: it runs the one that standard input names, or all. No
+//! contract says that refused memory is answered as such, nor that a call isn't refused otherwise.
 //!
 //! `hostile/refusals.sh` runs each of them with its first, second, and each following request for memory refused.
 #![tactic(auto)]

@@ -1,4 +1,4 @@
-//! The life of a matcher.
+//! The life of a matcher: each request for memory can be refused.
 
 use crate::lists::are_ids;
 use crate::outcome::{Met, Stop, TURNS, expect};

@@ -1,4 +1,4 @@
-//! Names, items and contexts that come to own what they borrowed.
+//! Names, items and contexts that come to own what they borrowed: each request for memory can be refused.
 
 use crate::element::{Calls, Element};
 use crate::lists::has;

@@ -1,4 +1,4 @@
-//! Whole runs.
+//! Whole runs: each request for memory can be refused.
 
 ghost use Rattle.std.specs.Prelude.{◌≡◌, All};
 ghost use Rattle.lol_vm.specs.Views.{HasRangesInside};

@@ -1,4 +1,4 @@
-//! Reading selectors.
+//! Reading selectors: each request for memory can be refused.
 
 use crate::outcome::{Met, Stop, TURNS, exactly, expect};
 use lol_vm::{

@@ -1,4 +1,4 @@
-//! Open elements, counters by type, and what start tags gather.
+//! Open elements, counters by type, and what start tags gather: each request for memory can be refused.
 
 ghost use Rattle.std.specs.Prelude.{◌≡◌};
 ghost use Rattle.lol_stack.specs.Stacks.{item_bytes_in};

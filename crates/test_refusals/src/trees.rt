@@ -1,4 +1,4 @@
-//! Selectors under ids.
+//! Selectors under ids: each request for memory can be refused.
 
 use crate::lists::has;
 use crate::outcome::{Met, Stop, TURNS, expect};

@@ -1,4 +1,4 @@
-//! A document of 100,000 open elements, tag by tag.
+//! A document of 100,000 open elements, tag by tag: a machine that refuses at some depth meets its contract.
 
 ghost use Rattle.std.specs.Prelude.{◌≡◌};
 ghost use Rattle.lol_vm.specs.Vms.{slot_bytes};

@@ -1,4 +1,4 @@
-//! Readers and writers over memory that fail at a call.
+//! Readers and writers over memory that fail at a call: no contract says that such a failure is told.
 
 use lol_script::{Counted, RunFault, Status, run};
 use std::alloc::Global;

@@ -1,4 +1,4 @@
-//! Ids, drops, limits and lines at their edges.
+//! Ids, drops, limits and lines at their edges, worked by hand: code and definition that are off by one alike fail.
 
 ghost use Rattle.std.specs.Prelude.{◌≡◌, []};
 ghost use Rattle.lol_vm.specs.Views.{HasRangesInside};

@@ -1,4 +1,4 @@
-//! Scripts that never end.
+//! Scripts that never end: no contract says that a run reads on until a read fails or memory is refused.
 
 use lol_script::{Counted, RunFault, Status, run};
 use std::alloc::Global;

@@ -1,4 +1,4 @@
-//! Scripts that show reasons.
+//! Scripts that show reasons, worked by hand: a wrong definition, with its code, fails.
 
 use crate::runs::{Row, expect_rows, expect_run, push_line};
 use lol_script::Status;

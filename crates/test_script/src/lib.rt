@@ -1,5 +1,5 @@
-//! Tests of whole scripts, worked and replayed; and of hostile input: great sizes with ample memory, deep documents, limits at their edges, and
-//! devices that fail at each call.
+//! Tests of whole scripts, worked and replayed, which wrong definitions would fail; and of what no contract says of hostile input: great sizes
+//! with ample memory, deep documents, and devices that fail at each call.
 #![tactic(auto)]
 
 #[cfg(test)]

@@ -1,4 +1,4 @@
-//! Runs of scripts.
+//! Runs of scripts: what the rows beside this file are told with.
 
 use lol_script::{Counted, RunFault, Status, run};
 use std::alloc::{AllocError, Global};

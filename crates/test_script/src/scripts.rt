@@ -1,4 +1,4 @@
-//! Whole scripts: worked by hand, replayed, long, and with devices that fail.
+//! Whole scripts: worked by hand and replayed, which wrong definitions fail; devices that fail, and exit statuses with their texts.
 
 use crate::runs::{expect_lines, expect_run, lines, parted, run_against, status_of};
 use crate::{replayed, worked};

@@ -1,4 +1,4 @@
-//! Scripts whose machine has rows.
+//! Scripts whose machine has rows, with tries counted by hand: a wrong definition of keys, with its code, fails.
 
 use crate::runs::{Row, expect_rows, expect_run, parted, push_line, status_of};
 use crate::worked::ANSWERED;

@@ -1,4 +1,4 @@
-//! Scripts that were worked by hand.
+//! Scripts that were worked by hand from docs/SCRIPT.md: a wrong definition, with its code, fails.
 
 /// 39 scripts, as `expect_texts` takes them.
 pub(super) const ANSWERED: &str = "\

@@ -6,8 +6,6 @@ mod elements;
 #[cfg(test)]
 mod names;
 #[cfg(test)]
-mod nodes;
-#[cfg(test)]
 mod runs;
 #[cfg(test)]
 mod sizes;
@@ -15,5 +13,3 @@ mod sizes;
 mod tests;
 #[cfg(test)]
 mod texts;
-#[cfg(test)]
-mod trees;

@@ -3,14 +3,13 @@
 ghost use Rattle.std.specs.Prelude.{All, IfOk};
 ghost use Rattle.lol_vm.specs.Views.{HasRangesInside};
 
-use crate::sizes::{expect, expect_holds};
+use crate::sizes::expect;
 use lol_base::Attributes;
 use lol_vm::{
     Ast, MatchInfo, Namespace, SelectorError, SharedMemoryLimiter, TagEvent, TagReport,
     match_each_event, match_events,
 };
 use std::alloc::{AllocError, Global};
-use std::process::Abort;
 use test_kit::selectors;
 
 /// How many tags there are.

@@ -1,4 +1,4 @@
-//! What a matcher says of attributes.
+//! What a matcher says of attributes: rows of Selectors 4, which code and definition that are wrong alike fail.
 
 use AttrSelectorOperator::{DashMatch, Equal, Includes, Prefix, Substring, Suffix};
 use Namespace::{Html, MathML, Svg};

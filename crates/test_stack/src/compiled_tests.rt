@@ -1,15 +1,15 @@
 //! Compiled tests of selectors: what Selectors 4 says of an element, which code and definition that are wrong alike fail.
 
 use crate::attributes::{Row, expect_rows, matcher};
-use crate::instructions::instruction;
 use lol_base::{LocalName, Namespace};
 use lol_instructions::{
     AttributeMatcher, ChildCounter, CompiledPredicate, Instruction, NameValue, SelectorState, Tries,
 };
+use lol_program::{Compiler, Program};
 use std::alloc::Global;
 use std::process::Abort;
 use std::test::Fail;
-use test_kit::{TagWord, WrittenAttributes, written_attributes};
+use test_kit::{TagWord, WrittenAttributes, selectors, written_attributes};
 
 /// A selector, the tag of an element that is the first child, its value by names, and whether it passes.
 struct ValueRow<'t>(&'t str, &'t str, NameValue, bool);
@@ -156,4 +156,15 @@ impl Row for AttributeRow<'_> {
 #[test]
 fn tests_of_attributes(rt: HostRuntime) -> Result<(), Fail> {
     expect_rows(&rt, rt.alloc(), &ATTRIBUTE_ROWS)
+}
+
+fn program(alloc: Global, text: &str) -> Result<Program, Fail> {
+    Ok(Compiler::new(alloc).compile(selectors(alloc, &[(text, 0)])?)?)
+}
+
+/// The instruction of a selector of one compound.
+fn instruction(rt: &impl Abort, alloc: Global, text: &str) -> Result<Instruction, Fail> {
+    let mut program = program(alloc, text)?;
+    assert!(rt; program.instructions.len() == 1);
+    Ok(program.instructions.pop().expect(rt, "an instruction"))
 }

@@ -1,5 +1,4 @@
-//! Tests of what a start tag is tried with, and of open elements: rows whose answers come from outside, which code and definitions that are
-//! wrong alike fail.
+//! Tests of what a start tag is tried with: rows of Selectors 4 and of lol_html, which code and definitions that are wrong alike fail.
 #![tactic(auto)]
 
 #[cfg(test)]
@@ -8,7 +7,3 @@ mod attributes;
 mod compiled_tests;
 #[cfg(test)]
 mod counters;
-#[cfg(test)]
-mod instructions;
-#[cfg(test)]
-mod stacks;

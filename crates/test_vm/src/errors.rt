@@ -1,4 +1,4 @@
-//! What errors say, and how they are passed on as a caller's own.
+//! What errors say, and how they are passed on as a caller's own: no contract says it.
 
 use crate::machine_runs::Machine;
 use lol_vm::{

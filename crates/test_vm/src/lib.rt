@@ -7,8 +7,6 @@ mod errors;
 #[cfg(test)]
 mod machine_runs;
 #[cfg(test)]
-mod machine_stops;
-#[cfg(test)]
 mod machines;
 #[cfg(test)]
 mod passed_on;

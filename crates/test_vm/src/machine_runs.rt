@@ -1,18 +1,18 @@
-//! A machine with the limiter that it is lent, driven tag by tag.
+//! A machine with the limiter that it is lent, driven tag by tag, for the rows of `machines.rt`.
 
 ghost use Rattle.std.specs.Prelude.{◌≡◌};
 ghost use Rattle.lol_vm.specs.Vms.{slot_bytes};
 
 use lol_vm::{
-    Ast, Attributes, AuxStartTagInfoRequest, Collected, LocalName, MatchInfo, Namespace,
-    SelectorMatchingVm, SharedMemoryLimiter, StartTagError, VmError,
+    Ast, Attributes, AuxStartTagInfoRequest, Collected, LocalName, MatchInfo, SelectorMatchingVm,
+    SharedMemoryLimiter, StartTagError, VmError,
 };
 use std::alloc::Global;
 use std::process::Abort;
 use test_kit::{Numbered, TagWord};
 
 /// How many bytes an open element is charged for.
-pub(crate) const ITEM_BYTES: usize = 64;
+const ITEM_BYTES: usize = 64;
 
 /// What a machine says of a start tag.
 #[derive(Debug, Clone, Copy, PartialEq, Eq)]
@@ -37,13 +37,7 @@ pub(crate) enum Told {
 /// A machine for data with numbers.
 pub(crate) type Machine = SelectorMatchingVm<Numbered>;
 
-/// A machine without ESI.
-pub(crate) fn machine(rt: &impl Abort, alloc: Global, ast: Ast) -> Machine
-    ensures { slot_bytes result ≡ 64 }
-{
-    machine_with(rt, alloc, ast, false)
-}
-
+/// A machine over a tree, with the names of ESI or without.
 pub(crate) fn machine_with(
     rt: &impl Abort,
     alloc: Global,
@@ -200,14 +194,6 @@ pub(crate) fn end(alloc: Global, vm: &mut Machine, name: &str) -> Collected<Numb
     };
     vm.exec_for_end_tag(LocalName::new(name.as_bytes()), &mut handler);
     closed
-}
-
-/// Gives the last open element a number.
-pub(crate) fn number(rt: &impl Abort, vm: &mut Machine, number: usize)
-    ensures { slot_bytes vm.new ≡ slot_bytes vm.old }
-{
-    let data = vm.current_element_data_mut();
-    data.expect(rt, "data of an open element").value = number;
 }
 
 /// Releases a machine whose slots are charged for `ITEM_BYTES` each.

@@ -1,4 +1,4 @@
-//! What lol_vm passes on for those who run programs of their own, each by lol_vm's name.
+//! What lol_vm passes on for those who run programs of their own, each by lol_vm's name: one that is left out would be proved.
 
 use lol_vm::{
     Ast, AttributeExprTest, BlockPlace, ChildCounter, Compilable, CompiledAttributeExpr,

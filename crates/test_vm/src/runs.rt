@@ -1,12 +1,11 @@
-//! Whole runs.
+//! Whole runs: a row of lol_html's own tests, whether reports are handed out or kept, and what comes before a refusal.
 
-ghost use Rattle.std.specs.Prelude.{◌≡◌, [], All};
+ghost use Rattle.std.specs.Prelude.{[], All};
 ghost use Rattle.lol_vm.specs.Views.{HasRangesInside};
 
-use crate::machines::are_reported;
 use lol_vm::{
-    Ast, Attributes, MatchInfo, Namespace, RunCause, RunStop, Selector, SelectorError,
-    SharedMemoryLimiter, TagEvent, TagReport, match_each_event, match_events,
+    Ast, Attributes, MatchInfo, Namespace, RunCause, RunStop, SelectorError, SharedMemoryLimiter,
+    TagEvent, TagReport, match_each_event, match_events,
 };
 use std::alloc::Global;
 use std::process::Abort;
@@ -119,40 +118,6 @@ fn is_started(report: &TagReport, infos: &[MatchInfo], names: u64) -> bool {
     matched.as_slice() == infos && !*asked && is_tried
 }
 
-/// What is reported of `div`, `p` and the end of `div`.
-fn reports_of_child(rt: &impl Abort, alloc: Global, ast: Ast) -> Result<Vec<TagReport>, Fail> {
-    let none = Attributes::new(alloc);
-    let events = [
-        start(b"div", &none),
-        start(b"p", &none),
-        TagEvent::End { name: b"div" },
-    ];
-    reports_of(rt, alloc, ast, false, &events, 1_000_000)
-}
-
-#[test]
-fn answers_children(rt: HostRuntime) -> Result<(), Fail> {
-    let ast = inside_div(rt.alloc())?;
-    let reports = reports_of_child(&rt, rt.alloc(), ast)?;
-    expect_children(&rt, &reports);
-    Ok(())
-}
-
-/// Expects no id for `div`, the ids 0 and 1 for `p`, and the elements 0 and 1 closed.
-fn expect_children(rt: &impl Abort, reports: &[TagReport]) {
-    assert!(rt; reports.len() == 3);
-    assert!(rt; has_ids(&reports[0], &[]) && has_ids(&reports[1], &[0, 1]));
-    assert!(rt; closes(&reports[2], &[0, 1]));
-}
-
-/// Whether a report is of a start tag with these ids, and with content.
-fn has_ids(report: &TagReport, ids: &[u32]) -> bool {
-    match report {
-        TagReport::Started { matched, .. } => are_reported(matched, ids, true),
-        TagReport::Dropped | TagReport::Ended { .. } => false,
-    }
-}
-
 /// Whether a report is of an end tag that closes these elements.
 fn closes(report: &TagReport, elements: &[usize]) -> bool {
     match report {
@@ -251,75 +216,5 @@ fn hands_out_the_reports_before_a_refusal(rt: HostRuntime) -> Result<(), Fail> {
     let mut reports = Vec::new(rt.alloc());
     assert!(rt; keep_nine(&rt, rt.alloc(), ast, &mut reports) == Err(AT_THE_NINTH));
     assert!(rt; have_counts(&reports, &[0, 1, 1, 1, 1, 1, 1, 1]));
-    Ok(())
-}
-
-/// Adds `:not(a7) x` under 7, for any number.
-fn add_numbered(alloc: Global, ast: &mut Ast, id: u32) -> Result<(), Fail> {
-    let text = format!(in alloc; ":not(a{id}) x")?;
-    let selector = Selector::from_str(alloc, &text)?;
-    ast.add_selector(&selector, id)?;
-    Ok(())
-}
-
-fn add_all_numbered(alloc: Global, ast: &mut Ast) -> Result<(), Fail> {
-    for id in 0..130 {
-        add_numbered(alloc, ast, id)?;
-    }
-    Ok(())
-}
-
-/// The selectors of the numbers from 0 to 129.
-fn numbered(alloc: Global) -> Result<Ast, Fail> {
-    let mut ast = Ast::new(alloc);
-    add_all_numbered(alloc, &mut ast)?;
-    Ok(ast)
-}
-
-/// Whether a start tag matched exactly the selectors of the numbers below this one, but for one that is left out.
-fn has_numbers(report: &TagReport, end: u32, left_out: Option<u32>) -> bool {
-    let TagReport::Started { matched, .. } = report else {
-        return false;
-    };
-    let mut number = 0u32;
-    for found in matched {
-        if left_out == Some(number) {
-            number = number.saturating_add(1);
-        }
-        if found.match_id != number {
-            return false;
-        }
-        number = number.saturating_add(1);
-    }
-    number == end
-}
-
-/// Expects the selectors of all numbers but 5 for `x` in `a5`, of all numbers for the later `x`, and none for `a5` and the last `div`.
-fn expect_numbers(rt: &impl Abort, reports: &[TagReport]) {
-    assert!(rt; reports.len() == 6);
-    assert!(rt; has_numbers(&reports[0], 0, None) && has_numbers(&reports[4], 0, None));
-    assert!(rt; has_numbers(&reports[1], 130, Some(5)));
-    assert!(rt; has_numbers(&reports[5], 130, None));
-}
-
-/// What is reported of `x` in `a5`, and of another inside two `div`s behind it.
-fn reports_of_many(rt: &impl Abort, alloc: Global, ast: Ast) -> Result<Vec<TagReport>, Fail> {
-    let none = Attributes::new(alloc);
-    let events = [
-        start(b"a5", &none),
-        start(b"x", &none),
-        TagEvent::End { name: b"x" },
-        start(b"div", &none),
-        start(b"div", &none),
-        start(b"x", &none),
-    ];
-    reports_of(rt, alloc, ast, false, &events, 512)
-}
-
-#[test]
-fn answers_where_many_ranges_are_active(rt: HostRuntime) -> Result<(), Fail> {
-    let ast = numbered(rt.alloc())?;
-    let reports = reports_of_many(&rt, rt.alloc(), ast)?;
-    expect_numbers(&rt, &reports);
     Ok(())
 }

@@ -1,9 +1,7 @@
 //! The worked rows of `lol_vectors` told to the machine, so that definitions and code can't be changed alike unnoticed; random runs of it beside
-//! the plain program; and reasons and witnesses whose numbers are told by hand.
+//! the plain program; and witnesses whose numbers are told by hand.
 #![tactic(auto)]
 
-#[cfg(test)]
-mod explained;
 #[cfg(test)]
 mod plain_model;
 #[cfg(test)]

@@ -1,4 +1,4 @@
-//! What the machine answers to tags as words.
+//! What the machine answers to tags as words: what the rows beside this file are told with.
 
 ghost use Rattle.std.specs.Prelude.{All};
 ghost use Rattle.lol_vm.specs.Views.{HasRangesInside};

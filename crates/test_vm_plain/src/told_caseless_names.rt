@@ -1,4 +1,4 @@
-//! Attributes whose values compare without case in HTML, told to the machine.
+//! Attributes whose values compare without case in HTML, told to the machine: a list that lacks one, in code and definition alike, fails.
 
 use crate::told::{numbered, reports, tells};
 use lol_vm::TagReport;

@@ -1,4 +1,4 @@
-//! Whole runs, told to the machine.
+//! Whole runs, told to the machine: the rows of `lol_vectors`, so that code and definition can't be changed alike.
 
 use crate::told::{count_told, reports, stop_of};
 use lol_vm::{RunCause, RunStop, TagReport};

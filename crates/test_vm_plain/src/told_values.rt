@@ -1,4 +1,4 @@
-//! Values of attributes, told to the machine.
+//! Values of attributes, told to the machine: rows of Selectors 4, so that code and definition can't be changed alike.
 
 use crate::told::{numbered, reports_of_tags, tells};
 use lol_vm::TagReport;

@@ -1,4 +1,4 @@
-//! Elements of HTML that never have content, told to the machine.
+//! Elements of HTML that never have content, told to the machine: a list that lacks one, in code and definition alike, fails.
 
 use crate::told::{reports, tells};
 use lol_vm::TagReport;

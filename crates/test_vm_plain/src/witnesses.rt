@@ -1,4 +1,4 @@
-//! Witnesses, from a program and the ranges of open elements.
+//! Witnesses, from a program and the ranges of open elements: numbers told by hand, which a wrong definition would fail.
 
 use lol_base::LocalName;
 use lol_program::{Compiler, ExecutionBranch, Program};
