@@ -1,16 +1,19 @@
 -- The hashes of a tag hold that of each instruction that it leaves.
-use Rattle.std.proofs.Common.{Bor, ◌≡◌, ℕ, zero, suc, ◌+◌, ◌<◌, arith, Bool, true, false, not, cond, nat_lt, List, [], ◌∷◌, ◌++◌, length, map, take, Option, Some, None, Result, Ok, Err, Contains, ◌⊎◌, inl, inr, refl, sym, ap, ◌∙◌, subst}
-use Rattle.std.specs.Prelude.{⊤, OnOk, flat_map, slice_get, unwrap_or}
+use Rattle.std.proofs.Common.{Bor, ◌≡◌, ℕ, ◌+◌, ◌<◌, arith, Bool, true, false, not, cond, nat_lt, List, [], ◌∷◌, ◌++◌, length, map, take, Option, Some, None, Contains, ◌⊎◌, inl, inr, refl, sym, ap, ◌∙◌, subst}
+use Rattle.std.specs.Prelude.{⊤, flat_map, slice_get, unwrap_or}
 use Rattle.std.specs.Str.{bytes_eq}
 use Rattle.std.specs.Option.{option_copied, option_map}
 use Rattle.std.specs.declared.hash.DefaultHasher.{DefaultHasher}
 use Rattle.std.proofs.lemmas.Bool.Decides.{nat_tests}
+use Rattle.std.proofs.lemmas.List.{take_more}
+use Rattle.std.proofs.lemmas.List.Elements.{Contains-append_cases, Contains-append_right}
+use Rattle.std.proofs.lemmas.Option.{slice_get-get_or}
 use Rattle.std.proofs.lemmas.Slice.Eq.{bytes_eq-Decides}
 use Rattle.lol_base.specs.Names.{lowercased}
 use Rattle.lol_base.specs.StartTags.{Attribute}
 use Rattle.lol_base.specs.BoolLaws.{and_parts}
-use Rattle.lol_base.specs.PlaceLaws.{some_is}
-use Rattle.lol_base.specs.MemberLaws.{Among, among_any, among_back, among_from_contains, contains_from_among, flat_map_among, map_among}
+use Rattle.lol_base.specs.PlaceLaws.{at_among, at_within, some_is}
+use Rattle.lol_base.specs.MemberLaws.{Among, among_any, among_from_contains, contains_from_among, flat_map_among, map_among}
 use Rattle.lol_instructions.specs.Tests.{find_attribute, has_value, operator_holds}
 use Rattle.lol_base.specs.declared.comparison.AttrSelectorOperator.TheVariants.{Substring}
 use Rattle.lol_instructions.specs.Attributes.{TagAttributes}
@@ -26,12 +29,12 @@ use Rattle.lol_instructions.specs.declared.compiled_expr.AttributeExprTest.TheVa
 use Rattle.lol_instructions.specs.declared.compiled_predicate.CompiledTest.{CompiledTest, Name, Attribute as OfAttribute, NoneOf', SomeOf'}
 use Rattle.lol_instructions.specs.declared.instruction.Instruction.{Instruction}
 use Rattle.lol_rows.specs.KeyHashes.{after_attribute, after_name, hash_after, hash_of_part}
-use Rattle.lol_rows.specs.TagHashes.{pair_hashes, HoldsBothParts, HoldsParts, Keeps}
+use Rattle.lol_rows.specs.TagHashes.{all_part_hashes, pair_hashes, part_hashes, AreAmong, HoldsBothParts, HoldsParts}
 use Rattle.lol_rows.specs.Rows.{AreRowsOf, HoldEach, is_left_by_keys, is_left_by_name, keys_of, parted_after, parted_of}
 use Rattle.lol_rows.specs.declared.row_kind.RowKind.TheVariants.{Pairs}
 use Rattle.lol_rows.specs.declared.rows.Rows.{Rows}
 use Rattle.lol_rows.specs.declared.sorted_hashes.SortedHashes.{SortedHashes}
-use Rattle.lol_rows.proofs.PairLemmas.{name_there, named_hasher, whole_among, IsWholeOrNone}
+use Rattle.lol_rows.proofs.PairLemmas.{added_among, name_there, named_hasher, whole_among, IsWholeOrNone}
 
 -- 1. A part of compiled tests has its length
 
@@ -169,19 +172,14 @@ part_contained value (b ∷ part) long h =
 
 -- 3. What is left by keys has its hash
 
-instruction_among : (instructions : List Instruction) (address : ℕ) (i : Instruction) → slice_get instructions address ≡ Some i → Among instructions i
-instruction_among [] address i h = cc
-instruction_among (first ∷ more) zero i h = inl (some_is h)
-instruction_among (first ∷ more) (suc k) i h = inr (instruction_among more k i h)
-
-module _ (name : List ℕ) (seen : TagAttributes) (instructions : List Instruction) (rows : Rows) (before after : List ℕ) where
+module _ (name : List ℕ) (seen : TagAttributes) (instructions : List Instruction) (rows : Rows) (after : List ℕ) where
   abbrev unnamed : DefaultHasher
   unnamed = after_name None
 
   abbrev named : DefaultHasher
   named = after_name (Some name)
 
-  pub hold_each : ((hash : ℕ) → Contains (pair_hashes name seen) hash → Contains after hash)
+  pub hold_each : AreAmong (pair_hashes name seen) after
       → ((a : Attribute) → Contains seen.attributes a → HoldsBothParts rows.parted unnamed named after a)
       → AreRowsOf instructions rows → HoldEach after Pairs (is_left_by_keys name seen) instructions
   hold_each kept parts own address i at left = by_key (keys_of i).attribute refl
@@ -202,25 +200,23 @@ module _ (name : List ℕ) (seen : TagAttributes) (instructions : List Instructi
           let found = attribute_there seen.attributes attribute part has in
           let both = parts found.attribute (contains_from_among seen.attributes found.attribute found.among) in
           let one = part_contained (unwrap_or found.attribute.value []) part (key_sized i (ByPart attribute part) is) found.holds in
-          by_hasher found.attribute found.named both one (named_hasher name i split.0)
+          elim (named_hasher name i split.0) [
+            | inl is ↦ by_hasher found.attribute unnamed found.named one is both.unnamed_parts
+            | inr is ↦ by_hasher found.attribute named found.named one is both.named_parts
+          ]
         where
           parted : Contains (flat_map parted_of instructions) (hash_after (after_name (keys_of i).name) (Some (ByAttribute attribute)))
           parted =
               contains_from_among (flat_map parted_of instructions) _
-              (flat_map_among parted_of instructions i _ (instruction_among instructions address i at) (subst (λ key. Among (parted_after (after_name (keys_of i).name) key) (hash_after (after_name (keys_of i).name) (Some (ByAttribute attribute)))) (sym is) (inl refl)))
+              (flat_map_among parted_of instructions i _ (at_among instructions address i at) (subst (λ key. Among (parted_after (after_name (keys_of i).name) key) (hash_after (after_name (keys_of i).name) (Some (ByAttribute attribute)))) (sym is) (inl refl)))
 
-          by_hasher : (a : Attribute) → lowercased a.name ≡ attribute → HoldsBothParts rows.parted unnamed named after a → Contains (parts_of (unwrap_or a.value [])) part
-              → (after_name (keys_of i).name ≡ unnamed) ⊎ (after_name (keys_of i).name ≡ named) → Contains after (hash_of_part (after_attribute (after_name (keys_of i).name) attribute) part)
-          by_hasher a same both one (inl hasher) =
-              subst (λ h. Contains after (hash_of_part (after_attribute h attribute) part)) (sym hasher)
-              (subst (λ n. Contains after (hash_of_part (after_attribute unnamed n) part)) same
-              (both.unnamed_parts _ own.parted (subst (λ n. Contains (flat_map parted_of instructions) (hash_after unnamed (Some (ByAttribute n)))) (sym same)
-              (subst (λ h. Contains (flat_map parted_of instructions) (hash_after h (Some (ByAttribute attribute)))) hasher parted)) part one))
-          by_hasher a same both one (inr hasher) =
-              subst (λ h. Contains after (hash_of_part (after_attribute h attribute) part)) (sym hasher)
-              (subst (λ n. Contains after (hash_of_part (after_attribute named n) part)) same
-              (both.named_parts _ own.parted (subst (λ n. Contains (flat_map parted_of instructions) (hash_after named (Some (ByAttribute n)))) (sym same)
-              (subst (λ h. Contains (flat_map parted_of instructions) (hash_after h (Some (ByAttribute attribute)))) hasher parted)) part one))
+          by_hasher : (a : Attribute) (hasher : DefaultHasher) → lowercased a.name ≡ attribute → Contains (parts_of (unwrap_or a.value [])) part
+              → after_name (keys_of i).name ≡ hasher → HoldsParts rows.parted hasher a.name (unwrap_or a.value []) after → Contains after (hash_of_part (after_attribute (after_name (keys_of i).name) attribute) part)
+          by_hasher a hasher same one is holds =
+              subst (Contains after) (λ j. hash_of_part (after_attribute (sym is j) (same j)) part)
+              (holds _ own.parted (subst (Contains (flat_map parted_of instructions)) (λ j. hash_after (is j) (Some (ByAttribute (sym same j)))) parted) _
+              (contains_from_among (part_hashes hasher a.name (unwrap_or a.value [])) _
+              (map_among (hash_of_part (after_attribute hasher (lowercased a.name))) (parts_of (unwrap_or a.value [])) part (among_from_contains (parts_of (unwrap_or a.value [])) part one))))
 
       by_key : (o : Option AttributeKey) → (keys_of i).attribute ≡ o → Contains after (hash_after (after_name (keys_of i).name) (keys_of i).attribute)
       by_key None is = whole (subst IsWholeOrNone (sym is) tt)
@@ -230,10 +226,6 @@ module _ (name : List ℕ) (seen : TagAttributes) (instructions : List Instructi
       by_key (Some (ByAttribute attribute)) is = whole (subst IsWholeOrNone (sym is) tt)
 
 -- 4. The hashes of parts are added
-
-pub on_ok : {T X : Type 0} (r : Result T X) (P Q : Type 0) → (P → Q) → OnOk r P → OnOk r Q
-on_ok (Ok v) P Q f h = f h
-on_ok (Err error) P Q f h = tt
 
 -- a value that is too short has no parts
 pub no_parts : (value : List ℕ) → length value < part_length → parts_of value ≡ []
@@ -246,58 +238,56 @@ no_parts (b ∷ value) short = by_length (nat_lt (length (b ∷ value)) part_len
 
 pub each_added : (table : SortedHashes) (hasher after : DefaultHasher) (name value old new : List ℕ) → after ≡ after_attribute hasher (lowercased name)
     → new ≡ old ++ map (hash_of_part after) (parts_of value) → HoldsParts table hasher name value new
-each_added table hasher after name value old new is added parted own known part one =
-    subst (λ l. Contains l (hash_of_part (after_attribute hasher (lowercased name)) part)) (sym added)
-    (contains_from_among (old ++ map (hash_of_part after) (parts_of value)) _
-    (among_back old (map (hash_of_part after) (parts_of value)) _
-    (subst (λ h. Among (map (hash_of_part after) (parts_of value)) (hash_of_part h part)) is
-    (map_among (hash_of_part after) (parts_of value) part (among_from_contains (parts_of value) part one)))))
+each_added table hasher after name value old new is added all own known hash has =
+    subst (λ (l : List ℕ). Contains l hash) (sym added)
+    (Contains-append_right old (map (hash_of_part after) (parts_of value)) hash (subst (λ h. Contains (map (hash_of_part h) (parts_of value)) hash) (sym is) has))
 
 -- what is kept still holds the parts
-pub parts_kept : (table : SortedHashes) (hasher : DefaultHasher) (name value old new : List ℕ) → Keeps old new → HoldsParts table hasher name value old → HoldsParts table hasher name value new
+pub parts_kept : (table : SortedHashes) (hasher : DefaultHasher) (name value old new : List ℕ) → AreAmong old new → HoldsParts table hasher name value old → HoldsParts table hasher name value new
 parts_kept table hasher name value old new keeps holds parted own known part one = keeps _ (holds parted own known part one)
 
-pub both_kept : (table : SortedHashes) (unnamed named : DefaultHasher) (old new : List ℕ) (a : Attribute) → Keeps old new → HoldsBothParts table unnamed named old a → HoldsBothParts table unnamed named new a
-both_kept table unnamed named old new a keeps holds = record {
-  unnamed_parts = parts_kept table unnamed a.name (unwrap_or a.value []) old new keeps holds.unnamed_parts;
-  named_parts = parts_kept table named a.name (unwrap_or a.value []) old new keeps holds.named_parts;
-}
+-- the attribute of an index
+pub record IsAttribute (attributes : List Attribute) (index : ℕ) (name value : List ℕ) : Type 0 where
+  pub attribute : Attribute
+  pub at : slice_get attributes index ≡ Some attribute
+  pub named : attribute.name ≡ name
+  pub valued : unwrap_or attribute.value [] ≡ value
+
+pub attribute_found : (attributes : List Attribute) (index : ℕ) (name : List ℕ) (o : Option (Bor (List ℕ))) (d r : Bor (List ℕ)) → name_there attributes index ≡ Some name
+    → option_copied o ≡ option_map (λ (a : Attribute). unwrap_or a.value []) (slice_get attributes index) → r ≡ unwrap_or o d → IsAttribute attributes index name r.now
+attribute_found attributes index name o d r there copied is = by_get (slice_get attributes index) o refl there copied is
+  where
+    by_get : (found : Option Attribute) (given : Option (Bor (List ℕ))) → slice_get attributes index ≡ found → option_map (λ (a : Attribute). a.name) found ≡ Some name
+        → option_copied given ≡ option_map (λ (a : Attribute). unwrap_or a.value []) found → r ≡ unwrap_or given d → IsAttribute attributes index name r.now
+    by_get None given at of to so = cc
+    by_get (Some a) None at of to so = cc
+    by_get (Some a) (Some value) at of to so = record { attribute = a; at = at; named = some_is of; valued = sym (some_is to) ∙ ap (λ (v : Bor (List ℕ)). v.now) (sym so) }
 
 -- an attribute before the next index is one before this index, or the one of this name and value
-pub next_attribute : (attributes : List Attribute) (index : ℕ) (name value : List ℕ) → name_there attributes index ≡ Some name → option_map (λ (a : Attribute). unwrap_or a.value []) (slice_get attributes index) ≡ Some value
-    → (a : Attribute) → Contains (take (index + 1) attributes) a → Contains (take index attributes) a ⊎ ((a.name ≡ name) × (unwrap_or a.value [] ≡ value))
-next_attribute [] index name value named valued a has = cc
-next_attribute (first ∷ more) zero name value named valued a has = by_head (among_from_contains (first ∷ []) a has)
-  where
-    by_head : Among (first ∷ []) a → Contains (take 0 (first ∷ more)) a ⊎ ((a.name ≡ name) × (unwrap_or a.value [] ≡ value))
-    by_head (inl is) = inr (subst (λ x. (x.name ≡ name) × (unwrap_or x.value [] ≡ value)) is (some_is named, some_is valued))
-    by_head (inr none) = absurd none
-next_attribute (first ∷ more) (suc k) name value named valued a has =
-    let later : suc k + 1 ≡ suc (k + 1) = omega arith in
-    by_head (among_from_contains (first ∷ take (k + 1) more) a (subst (λ n. Contains (take n (first ∷ more)) a) later has)) (next_attribute more k name value named valued a)
-  where
-    Later : Type 0
-    Later = Contains (take (k + 1) more) a → Contains (take k more) a ⊎ ((a.name ≡ name) × (unwrap_or a.value [] ≡ value))
+pub next_attribute : (attributes : List Attribute) (index : ℕ) (name value : List ℕ) → IsAttribute attributes index name value → (a : Attribute) → Contains (take (index + 1) attributes) a
+    → Contains (take index attributes) a ⊎ ((a.name ≡ name) × (unwrap_or a.value [] ≡ value))
+next_attribute attributes index name value found a has =
+    let inside = at_within attributes index found.attribute found.at in
+    let last = some_is (sym (slice_get-get_or attributes index found.attribute inside) ∙ found.at) in
+    elim (Contains-append_cases (take index attributes) (found.attribute ∷ []) a
+    (subst (λ (l : List Attribute). Contains l a) (take_more attributes index found.attribute inside ∙ ap (λ x. take index attributes ++ x ∷ []) last) has)) [
+      | inl before ↦ inl before
+      | inr this ↦ elim (among_from_contains (found.attribute ∷ []) a this) [
+        | inl is ↦ inr (subst (λ x. (x.name ≡ name) × (unwrap_or x.value [] ≡ value)) is (found.named, found.valued))
+        | inr none ↦ absurd none
+      ]
+    ]
 
-    by_rest : Contains (take k more) a ⊎ ((a.name ≡ name) × (unwrap_or a.value [] ≡ value)) → Contains (first ∷ take k more) a ⊎ ((a.name ≡ name) × (unwrap_or a.value [] ≡ value))
-    by_rest (inl before) = inl (contains_from_among (first ∷ take k more) a (inr (among_from_contains (take k more) a before)))
-    by_rest (inr this) = inr this
-
-    by_head : Among (first ∷ take (k + 1) more) a → Later → Contains (first ∷ take k more) a ⊎ ((a.name ≡ name) × (unwrap_or a.value [] ≡ value))
-    by_head (inl is) later = inl (contains_from_among (first ∷ take k more) a (inl is))
-    by_head (inr rest) later = by_rest (later (contains_from_among (take (k + 1) more) a rest))
-
--- where there is an attribute, its value is what is found
-pub value_is : (attributes : List Attribute) (index : ℕ) (name : List ℕ) (o : Option (Bor (List ℕ))) (d r : Bor (List ℕ)) → name_there attributes index ≡ Some name
-    → option_copied o ≡ option_map (λ (a : Attribute). unwrap_or a.value []) (slice_get attributes index) → r ≡ unwrap_or o d
-    → option_map (λ (a : Attribute). unwrap_or a.value []) (slice_get attributes index) ≡ Some r.now
-value_is attributes index name (Some value) d r named copied is = sym copied ∙ ap (λ (v : Bor (List ℕ)). Some v.now) (sym is)
-value_is attributes index name None d r named copied is = by_get (slice_get attributes index) named copied
-  where
-    by_get : (found : Option Attribute) → option_map (λ (a : Attribute). a.name) found ≡ Some name → None ≡ option_map (λ (a : Attribute). unwrap_or a.value []) found
-        → option_map (λ (a : Attribute). unwrap_or a.value []) found ≡ Some r.now
-    by_get None at of = cc
-    by_get (Some a) at of = cc
+-- hashes of the parts of its value are those of an attribute
+pub parts_only : (hasher : DefaultHasher) (attributes : List Attribute) (index : ℕ) (name value old before new : List ℕ) → IsAttribute attributes index name value
+    → AreAmong before (old ++ all_part_hashes hasher attributes) → AreAmong new (before ++ part_hashes hasher name value) → AreAmong new (old ++ all_part_hashes hasher attributes)
+parts_only hasher attributes index name value old before new found so_far =
+    added_among before (part_hashes hasher name value) new (old ++ all_part_hashes hasher attributes) so_far
+    (λ hash has.
+    Contains-append_right old (all_part_hashes hasher attributes) hash
+    (contains_from_among (all_part_hashes hasher attributes) hash
+    (flat_map_among (λ (a : Attribute). part_hashes hasher a.name (unwrap_or a.value [])) attributes found.attribute hash (at_among attributes index found.attribute found.at)
+    (among_from_contains (part_hashes hasher found.attribute.name (unwrap_or found.attribute.value [])) hash (subst (λ (l : List ℕ). Contains l hash) (λ i. part_hashes hasher (sym found.named i) (sym found.valued i)) has)))))
 
 -- where there are none, nothing has to be held
 pub none_parted : (table : SortedHashes) (hasher : DefaultHasher) (name value hashes : List ℕ) → length table.sorted.items ≡ 0 → HoldsParts table hasher name value hashes

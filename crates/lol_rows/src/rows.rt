@@ -7,6 +7,7 @@ ghost use Rattle.lol_instructions.specs.declared.instruction.Instruction.{Instru
 ghost use Rattle.lol_rows.specs.declared.row_kind.RowKind.TheVariants.{Pairs};
 ghost use Rattle.lol_rows.specs.KeyHashes.{name_hashes};
 ghost use Rattle.lol_rows.specs.Rows.{AreItsHashes, AreRowsOf, HasPassing, HoldEach, NonePasses, is_left_by_keys, is_left_open, parted_of, leaves, passes_at, passing, some_pass};
+ghost use Rattle.lol_rows.specs.TagHashes.{AreAmong, tag_hashes};
 
 use crate::key_hashes::{after_name, pair_hash};
 use crate::key_rows::{KeyRows, is_short};
@@ -102,8 +103,10 @@ impl Rows {
         matcher: &AttributeMatcher<'_>,
         hashes: &mut Vec<u32>,
     ) -> Result<(), AllocError>
-        ensures { OnOk result ((instructions : List Instruction) → AreRowsOf instructions self.now
+        ensures each { OnOk result ((instructions : List Instruction) → AreRowsOf instructions self.now
             → HoldEach hashes.new.items Pairs (is_left_by_keys local_name.now.lowercased matcher.now) instructions) }
+        ensures only { AreAmong hashes.new.items
+            (hashes.old.items ++ tag_hashes local_name.now.lowercased matcher.now) }
     {
         add_pair_hashes(local_name, matcher, hashes)?;
         add_part_hashes(&self.parted, local_name, matcher, hashes)?;

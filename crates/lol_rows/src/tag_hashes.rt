@@ -1,13 +1,13 @@
 //! The hashes of the keys that a start tag has.
 
-ghost use Rattle.std.specs.Prelude.{◌≡◌, ◌++◌, OnOk, Some, None, Contains, map, flat_map, option_to_list};
+ghost use Rattle.std.specs.Prelude.{ℕ, ◌↔◌, [], ◌∷◌, ◌++◌, OnOk, Some, None, Contains, map, flat_map, option_to_list, unwrap_or};
 ghost use Rattle.std.specs.Option.{option_copied, option_map};
 ghost use Rattle.lol_base.specs.Names.{lowercased};
 ghost use Rattle.lol_base.specs.StartTags.{Attribute};
 ghost use Rattle.lol_instructions.specs.Keys.{ById, ByClass, ByAttribute, parts_of, words_of};
 ghost use Rattle.lol_instructions.specs.CompiledKeys.{key_shown};
 ghost use Rattle.lol_rows.specs.KeyHashes.{after_name, hash_of_part};
-ghost use Rattle.lol_rows.specs.TagHashes.{both_hashes, pair_hashes, HoldsBothParts, HoldsParts, Keeps};
+ghost use Rattle.lol_rows.specs.TagHashes.{all_part_hashes, both_hashes, both_part_hashes, pair_hashes, part_hashes, Adds, AreAmong, HoldsBothParts, HoldsParts};
 
 use crate::key_hashes::{after_attribute, after_name, attribute_hash, pair_hash, part_hash};
 use crate::sorted_hashes::SortedHashes;
@@ -27,8 +27,8 @@ pub(crate) fn add_pair_hashes(
     matcher: &AttributeMatcher<'_>,
     hashes: &mut Vec<u32>,
 ) -> Result<(), AllocError>
-    ensures { OnOk result (hashes.new.items
-        ≡ hashes.old.items ++ pair_hashes local_name.now.lowercased matcher.now) }
+    ensures { Adds result hashes.old.items hashes.new.items
+        (pair_hashes local_name.now.lowercased matcher.now) }
 {
     let both = BothNames {
         unnamed: after_name(None),
@@ -37,8 +37,7 @@ pub(crate) fn add_pair_hashes(
     both.add_key(None, hashes)?;
     both.add_id(matcher.id(), hashes)?;
     both.add_words(matcher.class(), hashes)?;
-    both.add_names(matcher, hashes)?;
-    Ok(())
+    both.add_names(matcher, hashes)
 }
 
 /// Adds the hashes of the pairs with each part of the values of attributes, where the hash of the pair with the attribute's name is one of
@@ -52,19 +51,19 @@ pub(crate) fn add_part_hashes(
     matcher: &AttributeMatcher<'_>,
     hashes: &mut Vec<u32>,
 ) -> Result<(), AllocError>
-    ensures kept { OnOk result (Keeps hashes.old.items hashes.new.items) }
+    ensures kept { OnOk result (AreAmong hashes.old.items hashes.new.items) }
     ensures parts { OnOk result ((a : Attribute) → Contains matcher.now.attributes a
         → HoldsBothParts parted.now (after_name None) (after_name (Some local_name.now.lowercased))
         hashes.new.items a) }
+    ensures only { AreAmong hashes.new.items
+        (hashes.old.items ++ both_part_hashes local_name.now.lowercased matcher.now) }
 {
     if parted.is_empty() {
         return Ok(());
     }
-    let both = BothNames {
-        unnamed: after_name(None),
-        named: after_name(Some(local_name)),
-    };
-    both.add_parts(parted, matcher, hashes)
+    add_parts(after_name(None), parted, matcher, hashes)?;
+    add_parts(after_name(Some(local_name)), parted, matcher, hashes)?;
+    Ok(())
 }
 
 // So few hashes are looked up twice sooner than sorted.
@@ -73,7 +72,7 @@ const FEW_HASHES: usize = 64;
 /// Takes out hashes that stand twice where they are many, as those of equal parts of a long value are: each would find all that it finds
 /// once more.
 pub(crate) fn drop_repeated(hashes: &mut Vec<u32>)
-    ensures { Keeps hashes.old.items hashes.new.items }
+    ensures { (hash : ℕ) → Contains hashes.new.items hash ↔ Contains hashes.old.items hash }
 {
     if hashes.len() > FEW_HASHES {
         hashes.sort_unstable();
@@ -90,18 +89,20 @@ struct BothNames {
 
 impl BothNames {
     fn add_key(&self, key: Option<KeyBytes<'_>>, hashes: &mut Vec<u32>) -> Result<(), AllocError>
-        ensures { OnOk result (hashes.new.items ≡ hashes.old.items
-            ++ both_hashes self.now.unnamed self.now.named (option_map key_shown key.entry)) }
+        ensures { Adds result hashes.old.items hashes.new.items
+            (both_hashes self.now.unnamed self.now.named (option_map key_shown key.entry)) }
     {
-        hashes.push(pair_hash(self.unnamed, key))?;
-        hashes.push(pair_hash(self.named, key))?;
-        Ok(())
+        add_both(
+            pair_hash(self.unnamed, key),
+            pair_hash(self.named, key),
+            hashes,
+        )
     }
 
     /// Those of an id, if there is one.
     fn add_id(&self, id: Option<&[u8]>, hashes: &mut Vec<u32>) -> Result<(), AllocError>
-        ensures { OnOk result (hashes.new.items ≡ hashes.old.items
-            ++ flat_map (λ value. both_hashes self.now.unnamed self.now.named (Some (ById value)))
+        ensures { Adds result hashes.old.items hashes.new.items
+            (flat_map (λ value. both_hashes self.now.unnamed self.now.named (Some (ById value)))
             (option_to_list (option_copied id.entry))) }
     {
         match id {
@@ -112,8 +113,8 @@ impl BothNames {
 
     /// Those of each word of a value of `class`, if there is one.
     fn add_words(&self, class: Option<&[u8]>, hashes: &mut Vec<u32>) -> Result<(), AllocError>
-        ensures { OnOk result (hashes.new.items ≡ hashes.old.items
-            ++ flat_map (λ word. both_hashes self.now.unnamed self.now.named (Some (ByClass word)))
+        ensures { Adds result hashes.old.items hashes.new.items
+            (flat_map (λ word. both_hashes self.now.unnamed self.now.named (Some (ByClass word)))
             (words_of (option_copied class.entry))) }
     {
         let mut left = class;
@@ -131,44 +132,51 @@ impl BothNames {
         matcher: &AttributeMatcher<'_>,
         hashes: &mut Vec<u32>,
     ) -> Result<(), AllocError>
-        ensures { OnOk result (hashes.new.items ≡ hashes.old.items
-            ++ flat_map (λ a. both_hashes self.now.unnamed self.now.named (Some (ByAttribute (lowercased a.name))))
+        ensures { Adds result hashes.old.items hashes.new.items
+            (flat_map (λ a. both_hashes self.now.unnamed self.now.named (Some (ByAttribute (lowercased a.name))))
             matcher.now.attributes) }
     {
-        let mut index = 0;
-        while let Some(name) = matcher.name_at(index) {
-            hashes.push(attribute_hash(self.unnamed, name))?;
-            hashes.push(attribute_hash(self.named, name))?;
-            let Some(next) = index.checked_add(1) else {
-                return Err(AllocError);
+        for index in 0..usize::MAX {
+            let Some(name) = matcher.name_at(index) else {
+                return Ok(());
             };
-            index = next;
+            let unnamed = attribute_hash(self.unnamed, name);
+            let named = attribute_hash(self.named, name);
+            add_both(unnamed, named, hashes)?;
         }
-        Ok(())
+        Err(AllocError)
     }
-    /// Those of the parts of the value of each attribute, where the hash of its name is one of `parted`.
-    fn add_parts(
-        &self,
-        parted: &SortedHashes,
-        matcher: &AttributeMatcher<'_>,
-        hashes: &mut Vec<u32>,
-    ) -> Result<(), AllocError>
-        ensures kept { OnOk result (Keeps hashes.old.items hashes.new.items) }
-        ensures parts { OnOk result ((a : Attribute) → Contains matcher.now.attributes a
-            → HoldsBothParts parted.now self.now.unnamed self.now.named hashes.new.items a) }
-    {
-        let mut index = 0;
-        while let Some(name) = matcher.name_at(index) {
-            let value = matcher.value_at(index).unwrap_or(&[]);
-            add_parts_after(self.unnamed, parted, name, value, hashes)?;
-            add_parts_after(self.named, parted, name, value, hashes)?;
-            let Some(next) = index.checked_add(1) else {
-                return Err(AllocError);
-            };
-            index = next;
-        }
-        Ok(())
+}
+
+/// Adds a hash after no name and one after a name.
+fn add_both(unnamed: u32, named: u32, hashes: &mut Vec<u32>) -> Result<(), AllocError>
+    ensures { Adds result hashes.old.items hashes.new.items (unnamed ∷ named ∷ []) }
+{
+    hashes.push(unnamed)?;
+    hashes.push(named)?;
+    Ok(())
+}
+
+/// Adds the hashes of the parts of the value of each attribute, where the hash of its name is one of `parted`.
+fn add_parts(
+    hasher: DefaultHasher,
+    parted: &SortedHashes,
+    matcher: &AttributeMatcher<'_>,
+    hashes: &mut Vec<u32>,
+) -> Result<(), AllocError>
+    ensures kept { OnOk result (AreAmong hashes.old.items hashes.new.items) }
+    ensures parts { OnOk result ((a : Attribute) → Contains matcher.now.attributes a
+        → HoldsParts parted.now hasher a.name (unwrap_or a.value []) hashes.new.items) }
+    ensures only { AreAmong hashes.new.items (hashes.old.items ++ all_part_hashes hasher matcher.now.attributes) }
+{
+    for index in 0..usize::MAX {
+        let Some(name) = matcher.name_at(index) else {
+            return Ok(());
+        };
+        let value = matcher.value_at(index).unwrap_or(&[]);
+        add_parts_after(hasher, parted, name, value, hashes)?;
     }
+    Err(AllocError)
 }
 
 /// Adds the hashes of the parts of an attribute's value, where the hash of its name is one of `parted`.
@@ -179,8 +187,9 @@ fn add_parts_after(
     value: &[u8],
     hashes: &mut Vec<u32>,
 ) -> Result<(), AllocError>
-    ensures kept { OnOk result (Keeps hashes.old.items hashes.new.items) }
+    ensures kept { OnOk result (AreAmong hashes.old.items hashes.new.items) }
     ensures parts { OnOk result (HoldsParts parted.now hasher name.now value.now hashes.new.items) }
+    ensures only { AreAmong hashes.new.items (hashes.old.items ++ part_hashes hasher name.now value.now) }
 {
     if !parted.has(attribute_hash(hasher, name)) {
         return Ok(());
@@ -193,7 +202,7 @@ fn add_each_part(
     value: &[u8],
     hashes: &mut Vec<u32>,
 ) -> Result<(), AllocError>
-    ensures { OnOk result (hashes.new.items ≡ hashes.old.items ++ map (hash_of_part hasher) (parts_of value.now)) }
+    ensures { Adds result hashes.old.items hashes.new.items (map (hash_of_part hasher) (parts_of value.now)) }
 {
     let mut left = value;
     while left.len() >= PART_LENGTH {

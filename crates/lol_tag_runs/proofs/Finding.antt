@@ -2,6 +2,7 @@
 use Rattle.lol_tag_runs.proofs.Common.{◌≡◌, ℕ, ◌+◌, ◌-◌, ◌<◌, ◌≤◌, Bool, false, ◌||◌, list_any, List, [], ◌∷◌, ◌++◌, length, take, drop, get_or, sym, ap, ◌∙◌, arith, Range, append-nil, take-append-drop, take_all, addresses, all_addresses}
 use Rattle.std.proofs.lemmas.List.{length-append, take_more}
 use Rattle.std.proofs.lemmas.Grind.{flat_map-append}
+use Rattle.std.proofs.lemmas.Result.{on_ok_weaker}
 use Rattle.std.proofs.lemmas.List.FromFn.{length-range_with_len}
 use Rattle.lol_instructions.specs.declared.instruction.Instruction.{Instruction}
 use Rattle.std.proofs.Common.{true, Option, Some, None, Result, Ok, Err, Contains, subst, Bor}
@@ -82,10 +83,6 @@ held_if_ok (Err error) ok P slice given items others told is are hold same = abs
     none_some : None ≡ Some others → ⊥
     none_some h = let it = h in cc
 
-pub on_ok : {T X P Q : Type 0} (r : Result T X) → (P → Q) → OnOk r P → OnOk r Q
-on_ok (Ok v) f h = f h
-on_ok (Err error) f h = tt
-
 -- what rows were given after their hashes were added
 pub its_by_added : {T X : Type 0} (instructions : List Instruction) (rows : Rows) (keys : TagKeys) (name : Name) (seen : TagAttributes) (r : Result T X) (ok : Bool) (slice : Bor (List ℕ)) (given : Option (Bor (List ℕ))) (items : List ℕ)
     → keys.name.now ≡ name → option_copied keys.attributes ≡ Some seen → option_copied keys.hashes ≡ option_copied given → ok ≡ is_ok r → given ≡ then_some ok slice → slice.now ≡ items
@@ -93,5 +90,5 @@ pub its_by_added : {T X : Type 0} (instructions : List Instruction) (rows : Rows
 its_by_added instructions rows keys name seen r ok slice given items named seen_are given_are told is are each own =
     its_by_keys instructions keys seen seen_are
     (λ others same. held_if_ok r ok (λ l. HoldEach l (kind_for (Some seen)) (is_left_by_keys keys.name.now.lowercased seen) instructions) slice given items others told is are
-    (on_ok r (λ hold. subst (λ (n : Name). HoldEach items (kind_for (Some seen)) (is_left_by_keys n.lowercased seen) instructions) (sym named) (hold instructions own)) each)
+    (on_ok_weaker r (λ hold. subst (λ (n : Name). HoldEach items (kind_for (Some seen)) (is_left_by_keys n.lowercased seen) instructions) (sym named) (hold instructions own)) each)
     (sym given_are ∙ same))

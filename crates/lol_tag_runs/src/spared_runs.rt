@@ -7,6 +7,7 @@ ghost use Rattle.lol_program.specs.ProgramViews.{HasItsRows, has_rows};
 ghost use Rattle.lol_program.specs.Programs.{all_addresses};
 ghost use Rattle.lol_rows.specs.KeyHashes.{name_hashes as hashes_of};
 ghost use Rattle.lol_rows.specs.Rows.{AreItsHashes, AreRowsOf, is_left_by_keys, is_left_by_name, is_left_open, leaves, some_pass};
+ghost use Rattle.lol_rows.specs.TagHashes.{AreAmong, tag_hashes};
 ghost use Rattle.lol_tag_runs.specs.SparedRuns.{HasRoom, HasRoomFor, all_passing, left_at_point, opens_at_once};
 ghost use Rattle.lol_tag_runs.specs.TagRuns.{all_ranges, ranges_to_run_in};
 
@@ -173,7 +174,8 @@ fn find_left_by_name<'t>(
     )
 }
 
-/// Finds the addresses of what the name and the attributes leave.
+/// Finds the addresses of what the name and the attributes leave. Of the hashes there are those of this tag alone, also where memory was
+/// refused.
 #[inline(never)]
 fn find_left_by_keys<'t>(
     rows: &Rows,
@@ -188,6 +190,7 @@ fn find_left_by_keys<'t>(
     ensures free { AreRowsOf instructions.now rows.now
         → HasRoomFor space.old (length (all_addresses (all_ranges ranges.entry))) → IsOk result }
     ensures room { vec_capacity space.old.left ≤ vec_capacity space.new.left }
+    ensures hashes { AreAmong space.new.hashes.items (tag_hashes name.now.lowercased matcher.now) }
 {
     space.hashes.clear();
     let are_hashed = rows.add_hashes(name, matcher, &mut space.hashes).is_ok();

@@ -1,22 +1,18 @@
-use Rattle.std.proofs.Common.{ap, Result, Ok, Err}
-use Rattle.std.specs.Prelude.{OnOk}
+use Rattle.std.proofs.Common.{ap}
+use Rattle.std.proofs.lemmas.Result.{on_ok_weaker}
 use Rattle.std.specs.Option.{option_copied}
 use Rattle.lol_rows.specs.declared.row_kind.RowKind.TheVariants.{Names, Pairs}
 use Rattle.lol_rows.proofs.Deciding.{can_find_by_name, can_find_by_pair}
 use Rattle.lol_rows.proofs.rows.Rows.add_left.Goals as goal
 
-on_ok : {T X : Type 0} (r : Result T X) (P Q : Type 0) → (P → Q) → OnOk r P → OnOk r Q
-on_ok (Ok v) P Q f h = f h
-on_ok (Err error) P Q f h = tt
-
 pub returns-in-None-clause-left : goal.returns-in-None-clause-left
-returns-in-None-clause-left c = on_ok c.add_left.result _ _ (λ left rows its. left Names (can_find_by_name c.args.instructions.now c.args.self.now.names c.args.keys.now its rows.names (ap option_copied c.in-None.is))) c.add_left.ensures.left
+returns-in-None-clause-left c = on_ok_weaker c.add_left.result (λ left rows its. left Names (can_find_by_name c.args.instructions.now c.args.self.now.names c.args.keys.now its rows.names (ap option_copied c.in-None.is))) c.add_left.ensures.left
 
 pub returns-in-None-clause-free : goal.returns-in-None-clause-free
 returns-in-None-clause-free c = λ rows its. c.add_left.ensures.free Names (can_find_by_name c.args.instructions.now c.args.self.now.names c.args.keys.now its rows.names (ap option_copied c.in-None.is))
 
 pub returns-in-Some-clause-left : goal.returns-in-Some-clause-left
-returns-in-Some-clause-left c = on_ok c.add_left-in-Some.result _ _ (λ left rows its. left Pairs (can_find_by_pair c.args.instructions.now c.args.self.now.pairs c.args.keys.now its _ rows.pairs (ap option_copied c.in-Some.is))) c.add_left-in-Some.ensures.left
+returns-in-Some-clause-left c = on_ok_weaker c.add_left-in-Some.result (λ left rows its. left Pairs (can_find_by_pair c.args.instructions.now c.args.self.now.pairs c.args.keys.now its _ rows.pairs (ap option_copied c.in-Some.is))) c.add_left-in-Some.ensures.left
 
 pub returns-in-Some-clause-free : goal.returns-in-Some-clause-free
 returns-in-Some-clause-free c = λ rows its. c.add_left-in-Some.ensures.free Pairs (can_find_by_pair c.args.instructions.now c.args.self.now.pairs c.args.keys.now its _ rows.pairs (ap option_copied c.in-Some.is))
