@@ -24,172 +24,138 @@ is_letter b = (nat_le 97 b && nat_le b 122) || (nat_le 65 b && nat_le b 90)
 abbrev pub ends_name : ℕ → Bool
 ends_name b = is_space b || b == byte "/" || b == byte ">"
 
--- 13.2.5.1, Data
-abbrev pub text : ℕ → State
+-- Tags
+abbrev pub text : ℕ → State  -- 13.2.5.1, Data
 text b = if b == byte "<" then TagOpen else Data
 
--- 13.2.5.41, and all states of a DOCTYPE, 13.2.5.53 to 13.2.5.68
-abbrev pub bogus_comment : ℕ → State
+abbrev pub bogus_comment : ℕ → State  -- 13.2.5.41, and all states of a DOCTYPE, 13.2.5.53 to 13.2.5.68
 bogus_comment b = if b == byte ">" then Data else BogusComment
 
--- 13.2.5.6
-abbrev pub tag_open : ℕ → State
+abbrev pub tag_open : ℕ → State  -- 13.2.5.6
 tag_open b = if is_letter b then TagName else (if b == byte "/" then EndTagOpen else (if b == byte "!" then MarkupDeclarationOpen else (if b == byte "?" then BogusComment else text b)))
 
--- 13.2.5.7
-abbrev pub end_tag_open : ℕ → State
+abbrev pub end_tag_open : ℕ → State  -- 13.2.5.7
 end_tag_open b = if is_letter b then TagName else bogus_comment b
 
--- 13.2.5.8
-abbrev pub tag_name : ℕ → State
+abbrev pub tag_name : ℕ → State  -- 13.2.5.8
 tag_name b = if is_space b then BeforeAttributeName else (if b == byte "/" then SelfClosingStartTag else (if b == byte ">" then Data else TagName))
 
--- 13.2.5.32, 13.2.5.39 and 13.2.5.40
-abbrev pub before_attribute_name : ℕ → State
+-- Attributes
+abbrev pub before_attribute_name : ℕ → State  -- 13.2.5.32, 13.2.5.39 and 13.2.5.40
 before_attribute_name b = if is_space b then BeforeAttributeName else (if b == byte "/" then SelfClosingStartTag else (if b == byte ">" then Data else AttributeName))
 
--- 13.2.5.33
-abbrev pub attribute_name : ℕ → State
+abbrev pub attribute_name : ℕ → State  -- 13.2.5.33
 attribute_name b = if b == byte "=" then BeforeAttributeValue else (if is_space b then AfterAttributeName else (if b == byte "/" then SelfClosingStartTag else (if b == byte ">" then Data else AttributeName)))
 
--- 13.2.5.34
-abbrev pub after_attribute_name : ℕ → State
+abbrev pub after_attribute_name : ℕ → State  -- 13.2.5.34
 after_attribute_name b = if b == byte "=" then BeforeAttributeValue else (if is_space b then AfterAttributeName else before_attribute_name b)
 
--- 13.2.5.35
-abbrev pub before_attribute_value : ℕ → State
+-- 34 and 39 are the quotes.
+abbrev pub before_attribute_value : ℕ → State  -- 13.2.5.35
 before_attribute_value b = if is_space b then BeforeAttributeValue else (if b == 34 then AttributeValueDoubleQuoted else (if b == 39 then AttributeValueSingleQuoted else (if b == byte ">" then Data else AttributeValueUnquoted)))
 
--- 13.2.5.36
-abbrev pub double_quoted : ℕ → State
+abbrev pub double_quoted : ℕ → State  -- 13.2.5.36
 double_quoted b = if b == 34 then BeforeAttributeName else AttributeValueDoubleQuoted
 
--- 13.2.5.37
-abbrev pub single_quoted : ℕ → State
+abbrev pub single_quoted : ℕ → State  -- 13.2.5.37
 single_quoted b = if b == 39 then BeforeAttributeName else AttributeValueSingleQuoted
 
--- 13.2.5.38
-abbrev pub unquoted : ℕ → State
+abbrev pub unquoted : ℕ → State  -- 13.2.5.38
 unquoted b = if is_space b then BeforeAttributeName else (if b == byte ">" then Data else AttributeValueUnquoted)
 
--- 13.2.5.42: a CDATA section is entered where the current node isn't an HTML element
-abbrev pub markup_declaration_open : ℕ → Bool → State
+-- Markup declarations, comments and CDATA sections
+-- A CDATA section is entered where the current node isn't an HTML element.
+abbrev pub markup_declaration_open : ℕ → Bool → State  -- 13.2.5.42
 markup_declaration_open b foreign = if b == byte "-" then MarkupDash else (if foreign && b == byte "[" then MarkupBracket else bogus_comment b)
 
--- `<!-`
-abbrev pub markup_dash : ℕ → State
+abbrev pub markup_dash : ℕ → State  -- behind `<!-`
 markup_dash b = if b == byte "-" then CommentStart else bogus_comment b
 
--- a byte of `CDATA[`: `<![` and what follows it is a bogus comment otherwise
+-- A byte of `CDATA[` behind `<![`, which is a bogus comment without these.
 abbrev pub expected : ℕ → State → ℕ → State
 expected wanted next b = if b == wanted then next else bogus_comment b
 
--- 13.2.5.43
-abbrev pub comment_start : ℕ → State
+abbrev pub comment_start : ℕ → State  -- 13.2.5.43
 comment_start b = if b == byte "-" then CommentStartDash else (if b == byte ">" then Data else Comment)
 
--- 13.2.5.44
-abbrev pub comment_start_dash : ℕ → State
+abbrev pub comment_start_dash : ℕ → State  -- 13.2.5.44
 comment_start_dash b = if b == byte "-" then CommentEnd else (if b == byte ">" then Data else Comment)
 
--- 13.2.5.45 to 13.2.5.49
-abbrev pub comment : ℕ → State
+abbrev pub comment : ℕ → State  -- 13.2.5.45 to 13.2.5.49
 comment b = if b == byte "-" then CommentEndDash else Comment
 
--- 13.2.5.50
-abbrev pub comment_end_dash : ℕ → State
+abbrev pub comment_end_dash : ℕ → State  -- 13.2.5.50
 comment_end_dash b = if b == byte "-" then CommentEnd else Comment
 
--- 13.2.5.51
-abbrev pub comment_end : ℕ → State
+abbrev pub comment_end : ℕ → State  -- 13.2.5.51
 comment_end b = if b == byte ">" then Data else (if b == byte "!" then CommentEndBang else (if b == byte "-" then CommentEnd else Comment))
 
--- 13.2.5.52
-abbrev pub comment_end_bang : ℕ → State
+abbrev pub comment_end_bang : ℕ → State  -- 13.2.5.52
 comment_end_bang b = if b == byte "-" then CommentEndDash else (if b == byte ">" then Data else Comment)
 
--- 13.2.5.69
-abbrev pub cdata_section : ℕ → State
+abbrev pub cdata_section : ℕ → State  -- 13.2.5.69
 cdata_section b = if b == byte "]" then CdataSectionBracket else CdataSection
 
--- 13.2.5.70
-abbrev pub cdata_section_bracket : ℕ → State
+abbrev pub cdata_section_bracket : ℕ → State  -- 13.2.5.70
 cdata_section_bracket b = if b == byte "]" then CdataSectionEnd else CdataSection
 
--- 13.2.5.71
-abbrev pub cdata_section_end : ℕ → State
+abbrev pub cdata_section_end : ℕ → State  -- 13.2.5.71
 cdata_section_end b = if b == byte "]" then CdataSectionEnd else (if b == byte ">" then Data else CdataSection)
 
--- 13.2.5.2 to 13.2.5.4
-abbrev pub raw_text : ℕ → State
+-- Texts of elements
+abbrev pub raw_text : ℕ → State  -- 13.2.5.2 to 13.2.5.4
 raw_text b = if b == byte "<" then RawTextLessThanSign else RawText
 
--- 13.2.5.9, 13.2.5.12 and 13.2.5.15
-abbrev pub raw_text_less_than_sign : ℕ → Bool → State
+abbrev pub raw_text_less_than_sign : ℕ → Bool → State  -- 13.2.5.9, 13.2.5.12 and 13.2.5.15
 raw_text_less_than_sign b is_script = if b == byte "/" then RawTextEndTagOpen else (if is_script && b == byte "!" then ScriptDataEscapeStart else raw_text b)
 
--- 13.2.5.10, 13.2.5.13 and 13.2.5.16
-abbrev pub raw_text_end_tag_open : ℕ → State
+abbrev pub raw_text_end_tag_open : ℕ → State  -- 13.2.5.10, 13.2.5.13 and 13.2.5.16
 raw_text_end_tag_open b = if is_letter b then RawTextEndTagName else raw_text b
 
--- 13.2.5.11, 13.2.5.14 and 13.2.5.17
-abbrev pub raw_text_end_tag_name : ℕ → Bool → State
+abbrev pub raw_text_end_tag_name : ℕ → Bool → State  -- 13.2.5.11, 13.2.5.14 and 13.2.5.17
 raw_text_end_tag_name b named = if is_letter b then RawTextEndTagName else (if named && ends_name b then tag_name b else raw_text b)
 
--- 13.2.5.18
-abbrev pub escape_start : ℕ → State
+-- Scripts
+abbrev pub escape_start : ℕ → State  -- 13.2.5.18
 escape_start b = if b == byte "-" then ScriptDataEscapeStartDash else raw_text b
 
--- 13.2.5.19
-abbrev pub escape_start_dash : ℕ → State
+abbrev pub escape_start_dash : ℕ → State  -- 13.2.5.19
 escape_start_dash b = if b == byte "-" then ScriptDataEscapedDashDash else raw_text b
 
--- 13.2.5.20
-abbrev pub escaped : ℕ → State
+abbrev pub escaped : ℕ → State  -- 13.2.5.20
 escaped b = if b == byte "-" then ScriptDataEscapedDash else (if b == byte "<" then ScriptDataEscapedLessThanSign else ScriptDataEscaped)
 
--- 13.2.5.21
-abbrev pub escaped_dash : ℕ → State
+abbrev pub escaped_dash : ℕ → State  -- 13.2.5.21
 escaped_dash b = if b == byte "-" then ScriptDataEscapedDashDash else escaped b
 
--- 13.2.5.22
-abbrev pub escaped_dash_dash : ℕ → State
+abbrev pub escaped_dash_dash : ℕ → State  -- 13.2.5.22
 escaped_dash_dash b = if b == byte "-" then ScriptDataEscapedDashDash else (if b == byte ">" then RawText else escaped b)
 
--- 13.2.5.23
-abbrev pub escaped_less_than_sign : ℕ → State
+abbrev pub escaped_less_than_sign : ℕ → State  -- 13.2.5.23
 escaped_less_than_sign b = if b == byte "/" then ScriptDataEscapedEndTagOpen else (if is_letter b then ScriptDataDoubleEscapeStart else escaped b)
 
--- 13.2.5.24
-abbrev pub escaped_end_tag_open : ℕ → State
+abbrev pub escaped_end_tag_open : ℕ → State  -- 13.2.5.24
 escaped_end_tag_open b = if is_letter b then ScriptDataEscapedEndTagName else escaped b
 
--- 13.2.5.25
-abbrev pub escaped_end_tag_name : ℕ → Bool → State
+abbrev pub escaped_end_tag_name : ℕ → Bool → State  -- 13.2.5.25
 escaped_end_tag_name b named = if is_letter b then ScriptDataEscapedEndTagName else (if named && ends_name b then tag_name b else escaped b)
 
--- 13.2.5.26
-abbrev pub double_escape_start : ℕ → Bool → State
+abbrev pub double_escape_start : ℕ → Bool → State  -- 13.2.5.26
 double_escape_start b named = if is_letter b then ScriptDataDoubleEscapeStart else (if named && ends_name b then ScriptDataDoubleEscaped else (if ends_name b then ScriptDataEscaped else escaped b))
 
--- 13.2.5.27
-abbrev pub double_escaped : ℕ → State
+abbrev pub double_escaped : ℕ → State  -- 13.2.5.27
 double_escaped b = if b == byte "-" then ScriptDataDoubleEscapedDash else (if b == byte "<" then ScriptDataDoubleEscapedLessThanSign else ScriptDataDoubleEscaped)
 
--- 13.2.5.28
-abbrev pub double_escaped_dash : ℕ → State
+abbrev pub double_escaped_dash : ℕ → State  -- 13.2.5.28
 double_escaped_dash b = if b == byte "-" then ScriptDataDoubleEscapedDashDash else double_escaped b
 
--- 13.2.5.29
-abbrev pub double_escaped_dash_dash : ℕ → State
+abbrev pub double_escaped_dash_dash : ℕ → State  -- 13.2.5.29
 double_escaped_dash_dash b = if b == byte "-" then ScriptDataDoubleEscapedDashDash else (if b == byte ">" then RawText else double_escaped b)
 
--- 13.2.5.30
-abbrev pub double_escaped_less_than_sign : ℕ → State
+abbrev pub double_escaped_less_than_sign : ℕ → State  -- 13.2.5.30
 double_escaped_less_than_sign b = if b == byte "/" then ScriptDataDoubleEscapeEnd else double_escaped b
 
--- 13.2.5.31
-abbrev pub double_escape_end : ℕ → Bool → State
+abbrev pub double_escape_end : ℕ → Bool → State  -- 13.2.5.31
 double_escape_end b named = if is_letter b then ScriptDataDoubleEscapeEnd else (if named && ends_name b then ScriptDataEscaped else (if ends_name b then ScriptDataDoubleEscaped else double_escaped b))
 
 -- in a script behind `<!`, and in PLAINTEXT (13.2.5.5), which nothing ends

@@ -35,6 +35,10 @@ tag_rows =
     ∷ has (codes "</></ a></3><?x><!x>") []
     ∷ has (codes "<!DOCTYPE a \"b>c\"><i>") (codes "<i>" ∷ [])
     ∷ has (codes "<a b=\">\"c='>'d = e\">") (codes "<a b=\">\"c='>'d = e\">" ∷ [])
+    ∷ has (codes "<a  b  =  '>'  c d='>' e=f g='>' //h='>'>") (codes "<a  b  =  '>'  c d='>' e=f g='>' //h='>'>" ∷ [])
+    ∷ has (codes "<?a<a><!a<b></ <c><!-a<d><i>") (codes "<i>" ∷ [])
+    ∷ has (codes "</a b></a b=c></a b=></a b ></a/><i>")
+    (codes "</a b>" ∷ codes "</a b=c>" ∷ codes "</a b=>" ∷ codes "</a b >" ∷ codes "</a/>" ∷ codes "<i>" ∷ [])
     ∷ has (codes "<a/b=c/d>") (codes "<a/b=c/d>" ∷ [])
     ∷ has (codes "<a =\"b>\">") (codes "<a =\"b>" ∷ [])
     ∷ has (codes "<a b=>c>") (codes "<a b=>" ∷ [])
@@ -50,6 +54,9 @@ comment_rows =
     ∷ has (codes "<!--a--!><b>") (codes "<b>" ∷ [])
     ∷ has (codes "<!--!><a>--><b>") (codes "<b>" ∷ [])
     ∷ has (codes "<!--a--!-><b>-- ><i>--><u>") (codes "<u>" ∷ [])
+    ∷ has (codes "<!---a><i>--><b><!--a---><u>") (codes "<b>" ∷ codes "<u>" ∷ [])
+    ∷ has (codes "<!--a--!b><i>--><b>") (codes "<b>" ∷ [])
+    ∷ has (codes "<!----<a><a>--><b><!--a---<i><i>--><u>") (codes "<b>" ∷ codes "<u>" ∷ [])
     ∷ has (codes "<!--a<!--><b>") (codes "<b>" ∷ [])
     ∷ has (codes "<!-a--><b>") (codes "<b>" ∷ [])
     ∷ has (codes "<![CDATA[<a><b>]]><i>") (codes "<b>" ∷ codes "<i>" ∷ [])
@@ -59,6 +66,7 @@ comment_rows =
 abbrev pub text_rows : List Row
 text_rows =
     has (codes "<title><a></titles></TITLE b='>'><i>") (codes "<title>" ∷ codes "</TITLE b='>'>" ∷ codes "<i>" ∷ [])
+    ∷ has (codes "<title></titles<a></b <i></ <u></title><b>") (codes "<title>" ∷ codes "</title>" ∷ codes "<b>" ∷ [])
     ∷ has (codes "<TextArea></a></textarea/><i>") (codes "<TextArea>" ∷ codes "</textarea/>" ∷ codes "<i>" ∷ [])
     ∷ has (codes "<style><!--<a></style>--><i>") (codes "<style>" ∷ codes "</style>" ∷ codes "<i>" ∷ [])
     ∷ has (codes "<xmp></ xmp><</xmp ><i>") (codes "<xmp>" ∷ codes "</xmp >" ∷ codes "<i>" ∷ [])
@@ -68,16 +76,31 @@ text_rows =
     ∷ has (codes "<plaintext></plaintext><i>") (codes "<plaintext>" ∷ [])
     ∷ []
 
+-- what stands in a script, and is none of its tags
+abbrev pub in_script : List ℕ → Row
+in_script text = has (codes "<script>" ++ text ++ codes "</script b>") (codes "<script>" ∷ codes "</script b>" ∷ [])
+
 -- scripts, and what begins like a comment in them
 abbrev pub script_rows : List Row
 script_rows =
-    has (codes "<script><a></script><i>") (codes "<script>" ∷ codes "</script>" ∷ codes "<i>" ∷ [])
-    ∷ has (codes "<script><!--<script></script><a>--></script b>") (codes "<script>" ∷ codes "</script b>" ∷ [])
-    ∷ has (codes "<script><!--<SCRIPT/</script><a></script b>") (codes "<script>" ∷ codes "</script b>" ∷ [])
-    ∷ has (codes "<script><!--<scripts></script b>") (codes "<script>" ∷ codes "</script b>" ∷ [])
-    ∷ has (codes "<script><!--><script></script b>") (codes "<script>" ∷ codes "</script b>" ∷ [])
-    ∷ has (codes "<script><!-<script></script b>") (codes "<script>" ∷ codes "</script b>" ∷ [])
-    ∷ has (codes "<script><!--a-<script>--></script b>") (codes "<script>" ∷ codes "</script b>" ∷ [])
+    in_script (codes "<a>")
+    ∷ in_script (codes "<!--a-b--c---d< e</ f</g</h><i<j><script></script>")
+    ∷ in_script (codes "<!<a><!-<b></ <i></scripts<u>")
+    ∷ in_script (codes "<!--< <a></ <b></scripts<u><i<b>")
+    ∷ in_script (codes "<!--<script>---<a>--><script>")
+    ∷ in_script (codes "<!--<script></script><a>-->")
+    ∷ in_script (codes "<!--<SCRIPT/</script><a>")
+    ∷ in_script (codes "<!--<script></script><script></script>")
+    ∷ in_script (codes "<!--<scripts>")
+    ∷ in_script (codes "<!--<script->")
+    ∷ in_script (codes "<!--><script>")
+    ∷ in_script (codes "<!-<script>")
+    ∷ in_script (codes "<!a--<script>")
+    ∷ in_script (codes "<!--a--><script>")
+    ∷ in_script (codes "<!--a---><script>")
+    ∷ in_script (codes "<!--<script>---><a></b><script>")
+    ∷ in_script (codes "<!--<script>-a--b---c</d><</script->< /script></script>")
+    ∷ has (codes "<script><!--</script><i>") (codes "<script>" ∷ codes "</script>" ∷ codes "<i>" ∷ [])
     ∷ has (codes "<script><!--<script>--!></script><i>") (codes "<script>" ∷ [])
     ∷ []
 
@@ -99,7 +122,9 @@ abbrev pub foreign_rows : List Row
 foreign_rows =
     has (codes "<![CDATA[<a>]]]><i>") (codes "<i>" ∷ [])
     ∷ has (codes "<![CDATA[a]]b>]><a>]]><i>") (codes "<i>" ∷ [])
+    ∷ has (codes "<![CDATA[a]<a>]]]<b><b>]]><i>") (codes "<i>" ∷ [])
     ∷ has (codes "<![CDATA><b><![cdata[<a><i>") (codes "<b>" ∷ codes "<i>" ∷ [])
+    ∷ has (codes "<![><a><![C><b><![CD><i><![CDA><u><![CDAT><s>") (codes "<a>" ∷ codes "<b>" ∷ codes "<i>" ∷ codes "<u>" ∷ codes "<s>" ∷ [])
     ∷ []
 
 -- `<style>` was read, and the reader told that it is no HTML element

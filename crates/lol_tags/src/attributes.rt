@@ -33,8 +33,8 @@ pub fn push_outlines(
     outlines: &mut AttributeBuffer,
 ) -> Result<(), AllocError>
     ensures outlines { OnOk result (outlines.new.items ≡ outlines.old.items ++ outlines_of tag.now name_end) }
-    ensures inside { OnOk result (All (OutlineIsInside tag.now) outlines.old.items
-        → All (OutlineIsInside tag.now) outlines.new.items) }
+    ensures inside { OnOk result
+        (All (OutlineIsInside tag.now) outlines.old.items → All (OutlineIsInside tag.now) outlines.new.items) }
     ensures refused { OnErr result (outlines.new.items ≡ outlines.old.items) }
 {
     if name_end > tag.len() {
@@ -54,8 +54,8 @@ fn push_found(
     outlines: &mut AttributeBuffer,
 ) -> Result<(), AllocError>
     requires { reader.at + length rest.now < 2 ^ 64 }
-    ensures outlines { OnOk result (outlines.new.items
-        ≡ outlines.old.items ++ given attribute_step attribute_ended reader rest.now) }
+    ensures outlines { OnOk result
+        (outlines.new.items ≡ outlines.old.items ++ given attribute_step attribute_ended reader rest.now) }
     ensures kept { take (length outlines.old.items) outlines.new.items ≡ outlines.old.items }
 {
     let mut i = 0;

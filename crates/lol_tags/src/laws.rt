@@ -17,7 +17,7 @@ pub fn cuts_change_nothing()
     ensures { (r : TagReader) (chunks : List (List ℕ)) → tags_of_chunks r chunks ≡ tags_from r (concat chunks) }
 {}
 
-/// Each tag stands from a `<` to behind a `>`, and begins at or behind the end of the tag before it.
+/// Each tag stands from a `<` to behind a `>`, with its name between them, and begins at or behind the end of the tag before it.
 pub fn tags_stand_apart()
     ensures { (scripting : Bool) (bytes : List ℕ) → StandApart bytes 0 (tags_of scripting bytes) }
 {}
@@ -46,9 +46,8 @@ pub fn bytes_that_lead_nowhere_end_no_tag()
 
 /// What stands in a comment is no tag: here without `-`, and not a comment that its first `>` ends.
 pub fn comments_have_no_tags()
-    ensures { (r : TagReader) (first : ℕ) (bytes : List ℕ) → r.state ≡ Data → (first == byte ">") ≡ false
-        → Lacks (byte "-") (first ∷ bytes)
-        → tags_from r (codes "<!--" ++ (first ∷ bytes ++ codes "-->")) ≡ [] }
+    ensures { (r : TagReader) (first : ℕ) (bytes : List ℕ) → r.state ≡ Data
+        → (first == byte ">") ≡ false → Lacks (byte "-") (first ∷ bytes) → tags_from r (codes "<!--" ++ (first ∷ bytes ++ codes "-->")) ≡ [] }
 {}
 
 /// What stands in a CDATA section is no tag, where the current node isn't an HTML element: here without `]`.

@@ -38,8 +38,9 @@ pub struct Read {
 /// Reads the tags of a stream that comes in chunks, however it is cut. Its size is constant, and it keeps no bytes.
 ///
 /// The bytes are in an encoding that has ASCII's bytes for ASCII's characters and for nothing else, as UTF-8. The reader takes each
-/// element as an HTML element, until `set_foreign` tells otherwise. The end of the stream needs no call: what stands behind the last `>`
-/// that ends a tag is no tag.
+/// element as an HTML element, until `set_foreign` tells otherwise. It builds no tree: the text of an element that a browser would leave
+/// out, as `xmp` in a `select`, is read as if it were there. The end of the stream needs no call: what stands behind the last `>` that ends a
+/// tag is no tag.
 #[derive(Debug, Drop)]
 pub struct TagReader {
     state: State,
