@@ -4,3 +4,7 @@ pub mod CaselessNames
 pub mod WorkedAnswers
 pub mod WorkedRuns
 pub mod WorkedTexts
+pub mod PlainElements
+pub mod PlainNodes
+pub mod PlainTries
+pub mod Plain

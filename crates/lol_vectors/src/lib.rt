@@ -1,9 +1,32 @@
-//! Worked rows of the definitions, each computed from texts of selectors and from tags: the contract of an empty function is its rows.
-//! `test_vm_plain` tells the machine the same rows, so that definitions and code can't be changed alike unnoticed.
+//! Worked rows of the definitions, each computed from texts of selectors and from tags: the contract of an empty function is its rows. The tests
+//! tell the machine the same rows, so that definitions and code can't be changed alike unnoticed, and random runs beside the plain program of the
+//! definitions, so that a machine that refuses at will, or that the compiler gets wrong, is found.
 #![tactic(auto)]
 
 pub mod caseless_names;
+mod plain;
+mod plain_document;
+mod plain_element;
+mod plain_nodes;
+mod plain_tries;
+mod tag_words;
 pub mod void_names;
 pub mod worked_answers;
 pub mod worked_runs;
 pub mod worked_texts;
+
+pub use plain::{PlainAnswer, plain_answers};
+pub use tag_words::events_of;
+
+#[cfg(test)]
+mod plain_runs;
+#[cfg(test)]
+mod told;
+#[cfg(test)]
+mod told_caseless_names;
+#[cfg(test)]
+mod told_runs;
+#[cfg(test)]
+mod told_values;
+#[cfg(test)]
+mod told_void_names;

@@ -1,0 +1,6 @@
+use Rattle.std.specs.Prelude.{All}
+use Rattle.lol_vm.specs.Views.{HasRangesInside}
+use Rattle.lol_vectors.proofs.tag_words.events_of.Given as goal
+
+abbrev pub invariant-loop-tag : goal.invariant-loop-tag
+invariant-loop-tag l = All HasRangesInside l.events.items

@@ -1,6 +1,0 @@
-use Rattle.lol_base.specs.Names.{esi_names}
-use Rattle.plain_matcher.proofs.plain_document.is_esi.Goals as goal
-
-pub returns : goal.returns
-unfolding esi_names
-returns c = c.is_spelled_among.ensures

@@ -1,6 +1,0 @@
-use Rattle.std.specs.Prelude.{All}
-use Rattle.lol_vm.specs.Views.{HasRangesInside}
-use Rattle.plain_matcher.proofs.tag_words.events_of.Given as goal
-
-abbrev pub invariant-loop-tag : goal.invariant-loop-tag
-invariant-loop-tag l = All HasRangesInside l.events.items

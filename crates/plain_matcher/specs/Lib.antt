@@ -1,4 +1,0 @@
-pub mod PlainElements
-pub mod PlainNodes
-pub mod PlainTries
-pub mod Plain

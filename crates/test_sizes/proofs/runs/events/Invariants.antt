@@ -1,6 +1,0 @@
-use Rattle.std.specs.Prelude.{All}
-use Rattle.lol_vm.specs.Views.{HasRangesInside}
-use Rattle.test_sizes.proofs.runs.events.Given as goal
-
-abbrev pub invariant-loop-place : goal.invariant-loop-place
-invariant-loop-place l = All HasRangesInside l.events.items
