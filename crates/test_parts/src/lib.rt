@@ -1,6 +1,6 @@
-//! Tests of what is below trees: names, attributes, charged lists, sets of ids, and the reader of selectors. Rows whose answers come from outside,
-//! which definitions that are wrong would fail; printed texts, which no contract says; and an `Ok` of each call that can refuse, also at a great
-//! size.
+//! Tests of what is below trees: names, attributes, charged lists, sets of ids, the reader of selectors, and that of tags. Rows whose
+//! answers come from outside, which definitions that are wrong would fail; printed texts, which no contract says; and an `Ok` of each call
+//! that can refuse, also at a great size.
 #![tactic(auto)]
 
 #[cfg(test)]
@@ -19,5 +19,7 @@ mod names;
 mod readings;
 #[cfg(test)]
 mod sets;
+#[cfg(test)]
+mod tags;
 #[cfg(test)]
 mod texts;

@@ -1,7 +1,7 @@
 //! Tags and attributes of short texts, as another tokenizer has them: whether the definition means what the HTML Standard does. A wrong state
 //! that definition and code share is seen here, and a row that is read otherwise byte by byte.
 
-use crate::written::{fed, read_one_by_one, written};
+use crate::tags::written::{fed, read_one_by_one, written};
 use lol_tags::FeedError;
 use std::alloc::Global;
 use std::process::Abort;
