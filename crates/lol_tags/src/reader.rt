@@ -54,6 +54,7 @@ pub struct TagReader {
     foreign: bool,
 }
 
+// The codes of names, five bits for each letter. `with_byte` makes them, and the definition has the names themselves.
 const SCRIPT: u64 = 641_279_508;
 
 const STYLE: u64 = 20_604_293;
@@ -74,12 +75,15 @@ const NOSCRIPT: u64 = 497_783_744_020;
 
 const PLAINTEXT: u64 = 18_005_893_977_876;
 
+// 2^55: the codes of names of up to eleven letters are less.
+const TWELVE_LETTERS: u64 = 36_028_797_018_963_968;
+
 // The code of a name with one more byte.
 #[inline(always)]
 fn with_byte(code: u64, b: u8) -> u64
     ensures { result ≡ with_byte code b }
 {
-    if code < 36_028_797_018_963_968 && is_letter(b) {
+    if code < TWELVE_LETTERS && is_letter(b) {
         code * 32 + u64::from(b % 32)
     } else {
         u64::MAX
