@@ -1,6 +1,6 @@
 //! Numbers and letters that look random.
 
-ghost use Rattle.std.specs.Prelude.{◌≡◌, ◌≢◌, ◌%◌};
+ghost use Rattle.std.specs.Prelude.{◌≡◌, ◌<◌, ◌≢◌, ◌%◌};
 ghost use Rattle.test_kit.specs.Random.{next, upper};
 
 /// The letters that are drawn.

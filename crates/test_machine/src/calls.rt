@@ -1,94 +1,15 @@
 //! An explaining matcher, once through each call: one that refuses always meets its contract.
 
-use crate::pages::{builder_of, is_reason, matcher_of};
-use crate::told::{end, explain, finish, start, start_with};
-use lol_base::Attributes;
-use lol_explaining_matcher::{
-    ElementValue, ExplainingMatcher, MatcherError, Namespace, Reason, Started,
-};
+use crate::pages::{builder_of, is_reason};
+use lol_explaining_matcher::{ElementValue, ExplainingMatcher, Namespace, Reason};
 use std::alloc::Global;
 use std::test::Fail;
-use test_kit::written_attributes;
 
 fn is_one(reasons: &[Reason], id: u32, witness: &[usize]) -> bool {
     match reasons {
         [reason] => is_reason(reason, id, 0, 0, witness),
         _ => false,
     }
-}
-
-/// Whether this is the one reason of the last tag.
-fn is_explained(matcher: &ExplainingMatcher, id: u32, witness: &[usize]) -> bool {
-    match explain(matcher) {
-        Ok(reasons) => is_one(&reasons, id, witness),
-        Err(_) => false,
-    }
-}
-
-/// Whether the last tag has no reasons.
-fn is_unexplained(matcher: &ExplainingMatcher) -> bool {
-    match explain(matcher) {
-        Ok(reasons) => reasons.is_empty(),
-        Err(_) => false,
-    }
-}
-
-/// Tells of a start tag of HTML, and answers whether it is answered.
-fn starts(matcher: &mut ExplainingMatcher, name: &str) -> bool {
-    start(matcher, name, Namespace::Html).is_ok()
-}
-
-/// Tells of a start tag of HTML, and answers whether its attributes are asked for.
-fn asks(matcher: &mut ExplainingMatcher, name: &str) -> bool {
-    start(matcher, name, Namespace::Html) == Ok(Started::NeedsAttributes)
-}
-
-/// Tells of a start tag of HTML, and answers whether it is refused for this.
-fn refuses(matcher: &mut ExplainingMatcher, name: &str, error: MatcherError) -> bool {
-    start(matcher, name, Namespace::Html) == Err(error)
-}
-
-/// Whether `a` inside `main` is asked for its attributes, and nothing has reasons before they come.
-fn asks_inside_main(matcher: &mut ExplainingMatcher) -> bool {
-    is_unexplained(matcher)
-        && starts(matcher, "main")
-        && is_unexplained(matcher)
-        && matcher.has_opened()
-        && asks(matcher, "a")
-        && is_unexplained(matcher)
-        && !matcher.has_opened()
-}
-
-/// Whether the tag that waits is finished once, and has its reason then and afterwards.
-fn is_finished_once(matcher: &mut ExplainingMatcher, attributes: &Attributes) -> bool {
-    finish(matcher, attributes, false).is_ok()
-        && is_explained(matcher, 7, &[1, 0])
-        && finish(matcher, attributes, false) == Err(MatcherError::NotAsked)
-        && is_explained(matcher, 7, &[1, 0])
-        && matcher.tries().names() == 2
-}
-
-/// Whether `a` has no reasons once it is closed, and has them when it comes again.
-fn is_told_again(matcher: &mut ExplainingMatcher, attributes: &Attributes) -> bool {
-    end(matcher, "a");
-    is_unexplained(matcher)
-        && matcher.matches().is_empty()
-        && start_with(matcher, "a", Namespace::Html, attributes, false).is_ok()
-        && is_explained(matcher, 7, &[3, 0])
-}
-
-fn is_explained_each_time(matcher: &mut ExplainingMatcher, attributes: &Attributes) -> bool {
-    asks_inside_main(matcher)
-        && is_finished_once(matcher, attributes)
-        && is_told_again(matcher, attributes)
-}
-
-#[test]
-fn goes_tag_by_tag(rt: HostRuntime) -> Result<(), Fail> {
-    let attributes = written_attributes(rt.alloc(), &[("href", None)])?;
-    let mut matcher = matcher_of(rt.alloc(), &[("main a[href]", 7)])?;
-    assert!(rt; is_explained_each_time(&mut matcher, &attributes));
-    Ok(())
 }
 
 /// A matcher whose open elements have numbers.

@@ -27,8 +27,6 @@ mod passed_on;
 #[cfg(test)]
 mod readme;
 #[cfg(test)]
-mod runs;
-#[cfg(test)]
 mod told;
 #[cfg(test)]
 mod uses;

@@ -19,8 +19,6 @@ const ITEM_BYTES: usize = 64;
 pub(crate) enum Said {
     Unasked,
     Asked,
-    OverLimit,
-    Failed,
     /// What no test wants.
     Other,
 }
@@ -110,8 +108,6 @@ pub(crate) fn start(
         Err(VmError::InfoRequest(request)) => {
             finish(alloc, vm, limiter, tag, request, &mut reports)
         }
-        Err(VmError::MemoryLimitExceeded(_)) => Said::OverLimit,
-        Err(VmError::Failed) => Said::Failed,
         Err(_) => Said::Other,
     };
     with_reports(said, reports)
@@ -156,8 +152,6 @@ fn said_at_once(answer: Result<bool, StartTagError>) -> Said {
     match answer {
         Ok(false) => Said::Unasked,
         Ok(true) => Said::Asked,
-        Err(StartTagError::MemoryLimitExceeded) => Said::OverLimit,
-        Err(StartTagError::Failed) => Said::Failed,
         Err(_) => Said::Other,
     }
 }

@@ -14,24 +14,21 @@ use test_kit::{Numbered, TagWord, selectors};
 
 /// A step of a run, whose tags are words, with what has to come of it.
 #[derive(Clone, Copy)]
-pub(crate) enum Step<'t> {
+enum Step<'t> {
     /// A start tag that is answered, and finished where it is asked for: the ids, whether with content, and the tries.
     Start(&'t str, Said, &'t [u32], bool, (u64, u64)),
     /// A start tag that is asked for and dropped.
     Dropped(&'t str),
     /// An end tag: the ids of each of the data that it hands out.
     End(&'t str, &'t [&'t [u32]]),
-    /// So many bytes and slots are charged.
-    Charged(usize, usize),
 }
 
 impl Step<'_> {
-    /// Its tag, where it has one.
+    /// Its tag.
     fn tag(&self) -> &str {
         match self {
             Step::Start(tag, ..) | Step::Dropped(tag) => tag,
             Step::End(name, _) => name,
-            Step::Charged(..) => "charge",
         }
     }
 }
@@ -57,7 +54,7 @@ fn has_ids(data: &Numbered, ids: &[u32]) -> bool {
 }
 
 /// Whether exactly these ids were reported, with this content mark.
-pub(crate) fn are_reported(infos: &[MatchInfo], ids: &[u32], content: bool) -> bool {
+fn are_reported(infos: &[MatchInfo], ids: &[u32], content: bool) -> bool {
     if infos.len() != ids.len() {
         return false;
     }
@@ -105,13 +102,10 @@ fn is_taken(
         }
         Step::Dropped(tag) => is_dropped(alloc, vm, limiter, &TagWord::of(tag)),
         Step::End(name, ids) => hold(&end(alloc, vm, name), ids),
-        Step::Charged(bytes, slots) => {
-            limiter.current_usage() == *bytes && vm.charged_slots() == *slots
-        }
     }
 }
 
-pub(crate) fn take_step(
+fn take_step(
     rt: &impl Abort,
     alloc: Global,
     vm: &mut Machine,
@@ -127,24 +121,17 @@ pub(crate) fn take_step(
 /// Ample memory.
 const AMPLE: usize = 1_000_000;
 
-/// Takes the steps of a row on two machines of their own, with so many bytes at most: one is told of attributes where it asks, and one at
-/// once.
-fn check(rt: &impl Abort, alloc: Global, max: usize, row: Row<'_>) -> Result<(), Fail> {
-    check_told(rt, alloc, max, Told::WhereAsked, row)?;
-    check_told(rt, alloc, max, Told::AtOnce, row)
+/// Takes the steps of a row on two machines of their own: one is told of attributes where it asks, and one at once.
+fn check(rt: &impl Abort, alloc: Global, row: Row<'_>) -> Result<(), Fail> {
+    check_told(rt, alloc, Told::WhereAsked, row)?;
+    check_told(rt, alloc, Told::AtOnce, row)
 }
 
 /// Takes the steps of a row on a machine of their own.
-fn check_told(
-    rt: &impl Abort,
-    alloc: Global,
-    max: usize,
-    told: Told,
-    row: Row<'_>,
-) -> Result<(), Fail> {
+fn check_told(rt: &impl Abort, alloc: Global, told: Told, row: Row<'_>) -> Result<(), Fail> {
     let (texts, esi, steps) = row;
     let ast = selectors(alloc, texts)?;
-    let mut limiter = SharedMemoryLimiter::new(max);
+    let mut limiter = SharedMemoryLimiter::new(AMPLE);
     let mut vm = machine_with(rt, alloc, ast, esi);
     take_steps(rt, alloc, &mut vm, &mut limiter, told, steps);
     release(rt, vm, &mut limiter);
@@ -152,7 +139,7 @@ fn check_told(
     Ok(())
 }
 
-pub(crate) fn take_steps(
+fn take_steps(
     rt: &impl Abort,
     alloc: Global,
     vm: &mut Machine,
@@ -167,8 +154,8 @@ pub(crate) fn take_steps(
     }
 }
 
-use Said::{Asked, Failed, OverLimit, Unasked};
-use Step::{Charged, Dropped, End, Start};
+use Said::{Asked, Unasked};
+use Step::{Dropped, End, Start};
 
 static ROWS: [Row<'static>; 12] = [
     // Children and descendants.
@@ -282,7 +269,7 @@ static ROWS: [Row<'static>; 12] = [
 
 fn check_all(rt: &impl Abort, alloc: Global, rows: &[Row<'_>]) -> Result<(), Fail> {
     for row in rows {
-        check(rt, alloc, AMPLE, *row)?;
+        check(rt, alloc, *row)?;
     }
     Ok(())
 }
@@ -290,46 +277,4 @@ fn check_all(rt: &impl Abort, alloc: Global, rows: &[Row<'_>]) -> Result<(), Fai
 #[test]
 fn answer_rows(rt: HostRuntime) -> Result<(), Fail> {
     check_all(&rt, rt.alloc(), &ROWS)
-}
-
-/// A start tag that `*` matches under 0.
-fn opens(name: &str) -> Step<'_> {
-    Start(name, Unasked, &[0], true, (1, 0))
-}
-
-#[test]
-fn refuse_what_passes_the_limit(rt: HostRuntime) -> Result<(), Fail> {
-    let zero: &[u32] = &[0];
-    check(
-        &rt,
-        rt.alloc(),
-        512,
-        (
-            &[("*", 0)],
-            false,
-            &[
-                opens("a"),
-                Charged(512, 8),
-                opens("b"),
-                Charged(512, 8),
-                opens("c"),
-                Charged(512, 8),
-                opens("d"),
-                Charged(512, 8),
-                opens("e"),
-                Charged(512, 8),
-                opens("f"),
-                Charged(512, 8),
-                opens("g"),
-                Charged(512, 8),
-                opens("h"),
-                Charged(512, 8),
-                Start("i", OverLimit, &[0], true, (1, 0)),
-                Charged(512, 8),
-                Start("j", Failed, &[], true, (1, 0)),
-                Charged(512, 8),
-                End("c", &[zero; 6]),
-            ],
-        ),
-    )
 }

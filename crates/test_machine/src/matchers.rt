@@ -1,8 +1,8 @@
 //! A matcher on small pages, once through each call: one that refuses always meets its contract; and the texts of its errors.
 
 use lol_matcher::{
-    AddError, Attributes, AuxStartTagInfo, ElementValue, ErrorLocation, Matcher, MatcherBuilder,
-    MatcherError, Namespace, SelectorError, Started,
+    AddError, ElementValue, ErrorLocation, Matcher, MatcherBuilder, MatcherError, Namespace,
+    SelectorError, Started,
 };
 use std::alloc::{AllocError, Global};
 use std::process::Abort;
@@ -14,7 +14,7 @@ fn add(builder: &mut MatcherBuilder, id: u32, text: &str) -> Result<(), AddError
 }
 
 /// Selectors under ids.
-pub(crate) fn builder_of(alloc: Global, texts: &[(&str, u32)]) -> Result<MatcherBuilder, AddError> {
+fn builder_of(alloc: Global, texts: &[(&str, u32)]) -> Result<MatcherBuilder, AddError> {
     let mut builder = Matcher::builder(alloc);
     for (text, id) in texts {
         add(&mut builder, *id, text)?;
@@ -22,49 +22,10 @@ pub(crate) fn builder_of(alloc: Global, texts: &[(&str, u32)]) -> Result<Matcher
     Ok(builder)
 }
 
-/// The same, with at most so many bytes, and so many for each element.
-fn limited_builder(
-    alloc: Global,
-    texts: &[(&str, u32)],
-    max_memory: usize,
-    element_bytes: usize,
-) -> Result<MatcherBuilder, AddError> {
-    let mut builder = builder_of(alloc, texts)?;
-    builder.max_memory(max_memory);
-    builder.element_bytes(element_bytes);
-    Ok(builder)
-}
-
-/// A matcher with at most so many bytes, and so many for each element.
-fn matcher(
-    alloc: Global,
-    texts: &[(&str, u32)],
-    max_memory: usize,
-    element_bytes: usize,
-) -> Result<Matcher, Fail> {
-    Ok(limited_builder(alloc, texts, max_memory, element_bytes)?.build()?)
-}
-
-// The calls with the longest contracts stand in functions that promise nothing, so that no test carries along what they say.
+// The call with the longest contract stands in a function that promises nothing, so that no test carries along what it says.
 
 fn start(matcher: &mut Matcher, name: &str, ns: Namespace) -> Result<Started, MatcherError> {
     matcher.start(name.as_bytes(), ns)
-}
-
-fn finish_with(matcher: &mut Matcher, aux_info: AuxStartTagInfo<'_>) -> Result<(), MatcherError> {
-    matcher.finish(aux_info)
-}
-
-fn finish(
-    matcher: &mut Matcher,
-    attributes: &Attributes,
-    self_closing: bool,
-) -> Result<(), MatcherError> {
-    finish_with(matcher, attributes.aux_info(self_closing))
-}
-
-fn end(matcher: &mut Matcher, name: &str) {
-    matcher.end(name.as_bytes());
 }
 
 /// Whether a matcher's last report has exactly these ids.
@@ -79,108 +40,6 @@ fn has_ids(matcher: &Matcher, ids: &[u32]) -> bool {
 /// Tells of a start tag of HTML whose attributes aren't asked for: whether it is reported under these ids.
 fn reports(matcher: &mut Matcher, name: &str, ids: &[u32]) -> bool {
     start(matcher, name, Namespace::Html) == Ok(Started::Reported) && has_ids(matcher, ids)
-}
-
-/// Tells of a start tag whose attributes are asked for: whether nothing is reported before they come.
-fn waits(matcher: &mut Matcher, name: &str, ns: Namespace) -> bool {
-    start(matcher, name, ns) == Ok(Started::NeedsAttributes) && has_ids(matcher, &[])
-}
-
-/// Tells of a start tag of HTML: whether it is refused for this.
-fn refuses(matcher: &mut Matcher, name: &str, error: MatcherError) -> bool {
-    start(matcher, name, Namespace::Html) == Err(error)
-}
-
-/// Tells of a start tag and then of its attributes, which are asked for: whether it is reported under these ids.
-fn reports_asked(
-    matcher: &mut Matcher,
-    (name, ns): (&str, Namespace),
-    attributes: &Attributes,
-    self_closing: bool,
-    ids: &[u32],
-) -> bool {
-    waits(matcher, name, ns)
-        && finish(matcher, attributes, self_closing).is_ok()
-        && has_ids(matcher, ids)
-}
-
-/// Whether no tag waits for attributes.
-fn waits_for_none(matcher: &mut Matcher, attributes: &Attributes) -> bool {
-    finish(matcher, attributes, false) == Err(MatcherError::NotAsked)
-}
-
-/// Whether nothing is reported of an end tag.
-fn reports_no_end(matcher: &mut Matcher, name: &str) -> bool {
-    end(matcher, name);
-    has_ids(matcher, &[])
-}
-
-/// Whether `div`, its link and what comes behind it are reported, one tag after the other.
-fn goes_on(matcher: &mut Matcher, attributes: &Attributes) -> bool {
-    reports(matcher, "div", &[])
-        && reports_asked(matcher, ("a", Namespace::Html), attributes, false, &[0, 1])
-        && matcher.tries().names() == 4
-        && waits_for_none(matcher, attributes)
-        && reports_no_end(matcher, "div")
-        && reports(matcher, "p", &[])
-        && !matcher.has_failed()
-}
-
-#[test]
-fn goes_tag_by_tag(rt: HostRuntime) -> Result<(), Fail> {
-    let attributes = written(rt.alloc(), b"href", None)?;
-    let mut matcher = matcher(
-        rt.alloc(),
-        &[("div > p, div a", 0), ("a[href]", 1)],
-        100_000,
-        64,
-    )?;
-    assert!(rt; goes_on(&mut matcher, &attributes));
-    Ok(())
-}
-
-/// One attribute.
-fn written(alloc: Global, name: &[u8], value: Option<&[u8]>) -> Result<Attributes, AllocError> {
-    let mut attributes = Attributes::new(alloc);
-    attributes.push(name, value)?;
-    Ok(attributes)
-}
-
-/// A matcher of three nodes, `div`, `div p` and `div > p`, with rows from so many on.
-fn with_rows_from(alloc: Global, fewest: usize) -> Result<Matcher, Fail> {
-    let mut builder = builder_of(alloc, &[("div p", 0), ("div > p", 1)])?;
-    builder.with_rows_from(fewest);
-    Ok(builder.build()?)
-}
-
-/// Whether so many nodes are tried for a `section` in a `div`, and a `p` in it is reported.
-fn tries_in_div(matcher: &mut Matcher, names: u64) -> bool {
-    reports(matcher, "div", &[])
-        && reports(matcher, "section", &[])
-        && matcher.tries().names() == names
-        && reports(matcher, "p", &[0])
-}
-
-/// Whether so many nodes are tried with rows from so many nodes on.
-fn tries_from(alloc: Global, fewest: usize, names: u64) -> Result<bool, Fail> {
-    let mut matcher = with_rows_from(alloc, fewest)?;
-    Ok(tries_in_div(&mut matcher, names))
-}
-
-/// Whether a matcher with rows spares all nodes.
-fn spares_all(alloc: Global) -> Result<bool, Fail> {
-    let mut builder = builder_of(alloc, &[("div p", 0)])?;
-    builder.with_rows();
-    Ok(tries_in_div(&mut builder.build()?, 0))
-}
-
-#[test]
-fn spares_nodes_from_so_many_on(rt: HostRuntime) -> Result<(), Fail> {
-    assert!(rt; tries_from(rt.alloc(), 0, 0)?);
-    assert!(rt; tries_from(rt.alloc(), 3, 0)?);
-    assert!(rt; tries_from(rt.alloc(), 4, 3)?);
-    assert!(rt; spares_all(rt.alloc())?);
-    Ok(())
 }
 
 /// Values that were handed out, with the ids beside them: at most eight.

@@ -1,4 +1,4 @@
-//! The calls of both kinds of matchers. Each stands in a function that promises nothing: what its contract says is met there once, and no
+//! The calls of explaining matchers. Each stands in a function that promises nothing: what its contract says is met there once, and no
 //! test carries it along.
 
 use lol_base::Attributes;
@@ -6,15 +6,7 @@ use lol_explaining_matcher::{ExplainingMatcher, MatcherError, Namespace, Reason,
 use std::alloc::AllocError;
 use test_kit::TagWord;
 
-/// What is answered to a start tag, and to its attributes where these are asked for or stand beside it.
-#[derive(Clone, Copy, PartialEq)]
-pub(crate) enum Answer {
-    Ended,
-    Started(Result<Started, MatcherError>),
-    Finished(Result<(), MatcherError>),
-}
-
-pub(crate) fn start(
+fn start(
     matcher: &mut ExplainingMatcher,
     name: &str,
     ns: Namespace,
@@ -22,7 +14,7 @@ pub(crate) fn start(
     matcher.start(name.as_bytes(), ns)
 }
 
-pub(crate) fn finish(
+fn finish(
     matcher: &mut ExplainingMatcher,
     attributes: &Attributes,
     self_closing: bool,
@@ -30,7 +22,7 @@ pub(crate) fn finish(
     matcher.finish(attributes.aux_info(self_closing))
 }
 
-pub(crate) fn start_with(
+fn start_with(
     matcher: &mut ExplainingMatcher,
     name: &str,
     ns: Namespace,
@@ -40,7 +32,7 @@ pub(crate) fn start_with(
     matcher.start_with(name.as_bytes(), ns, attributes.aux_info(self_closing))
 }
 
-pub(crate) fn end(matcher: &mut ExplainingMatcher, name: &str) {
+fn end(matcher: &mut ExplainingMatcher, name: &str) {
     matcher.end(name.as_bytes());
 }
 
@@ -48,43 +40,24 @@ pub(crate) fn explain(matcher: &ExplainingMatcher) -> Result<Vec<Reason>, AllocE
     matcher.explain()
 }
 
-/// Tells of a tag, with its attributes at hand, or only if they are asked for.
-pub(crate) fn tell(
-    matcher: &mut ExplainingMatcher,
-    tag: &TagWord<'_>,
-    attributes: &Attributes,
-    at_hand: bool,
-) -> Answer {
-    if tag.ends {
-        end(matcher, tag.name);
-        return Answer::Ended;
-    }
-    if at_hand && tag.finish {
-        return Answer::Finished(start_with(
-            matcher,
-            tag.name,
-            tag.ns,
-            attributes,
-            tag.self_closing,
-        ));
-    }
-    match start(matcher, tag.name, tag.ns) {
-        Ok(Started::NeedsAttributes) if tag.finish => {
-            Answer::Finished(finish(matcher, attributes, tag.self_closing))
-        }
-        started => Answer::Started(started),
-    }
-}
-
-/// The same, and whether it is answered.
+/// Tells of a tag, with its attributes at hand, or only if they are asked for, and says whether it is answered.
 pub(crate) fn is_told(
     matcher: &mut ExplainingMatcher,
     tag: &TagWord<'_>,
     attributes: &Attributes,
     at_hand: bool,
 ) -> bool {
-    !matches!(
-        tell(matcher, tag, attributes, at_hand),
-        Answer::Started(Err(_)) | Answer::Finished(Err(_))
-    )
+    if tag.ends {
+        end(matcher, tag.name);
+        return true;
+    }
+    if at_hand && tag.finish {
+        return start_with(matcher, tag.name, tag.ns, attributes, tag.self_closing).is_ok();
+    }
+    match start(matcher, tag.name, tag.ns) {
+        Ok(Started::NeedsAttributes) if tag.finish => {
+            finish(matcher, attributes, tag.self_closing).is_ok()
+        }
+        started => started.is_ok(),
+    }
 }

@@ -1,4 +1,5 @@
-//! Where texts are refused: rows worked by hand from the tokens of CSS Syntax 3 and the grammar of Selectors 4, with counted bytes.
+//! Where texts are refused: rows worked by hand from the tokens of CSS Syntax 3 and the grammar of Selectors 4, with counted bytes. A
+//! wrong definition, with its code, fails.
 
 use lol_css::{ErrorLocation, Selector};
 use std::test::Fail;

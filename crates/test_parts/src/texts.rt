@@ -1,4 +1,4 @@
-//! Refused texts with their causes: the worked rows of the definition, read.
+//! Refused texts with their causes: the worked rows of the definition, read, so that code and definition can't be changed alike.
 
 use lol_css::{SelectorError, SelectorsParser};
 use std::alloc::Global;

@@ -1,8 +1,8 @@
 //! Rows of the instructions of selectors that stand side by side: what is left of them was counted by hand, so that definitions of keys and
 //! code that are wrong alike are found.
 
-use crate::nodes::add;
 use lol_base::{Attributes, LocalName, Namespace};
+use lol_css::Selector;
 use lol_program::{Ast, AttributeMatcher, Compiler, Program};
 use lol_rows::{Rows, TagKeys, name_hashes};
 use std::alloc::{AllocError, Global};
@@ -106,45 +106,18 @@ fn compiled(alloc: Global, ast: Ast) -> Result<WithRows, Fail> {
     Ok(WithRows { program, rows })
 }
 
-fn add_lines(alloc: Global, ast: &mut Ast, lines: &str) -> Result<(), Fail> {
-    for line in lines.lines() {
-        add(alloc, ast, line, 0)?;
-    }
+/// Adds the selector of a text.
+fn add(alloc: Global, ast: &mut Ast, text: &str) -> Result<(), Fail> {
+    let selector = Selector::from_str(alloc, text)?;
+    ast.add_selector(&selector, 0)?;
     Ok(())
 }
 
-/// What is asked of rows.
-#[derive(Clone, Copy)]
-enum Question<'q> {
-    /// Whether they leave what is counted by hand.
-    Counted(&'q [Row<'q>]),
-    /// Whether they leave these addresses of tags.
-    Leaves(&'q [LeftRow<'q>]),
-}
-
-use Question::{Counted, Leaves};
-
-/// Expects the rows of selectors, one on each line of texts, to answer as they should.
-fn check(
-    rt: &impl Abort,
-    alloc: Global,
-    texts: &[&str],
-    question: Question<'_>,
-) -> Result<(), Fail> {
-    let tried = with_rows(alloc, texts)?;
-    expect_answer(rt, alloc, &tried, question)
-}
-
-fn expect_answer(
-    rt: &impl Abort,
-    alloc: Global,
-    tried: &WithRows,
-    question: Question<'_>,
-) -> Result<(), Fail> {
-    match question {
-        Counted(rows) => expect_counted(rt, alloc, tried, rows),
-        Leaves(rows) => expect_left(rt, alloc, tried, rows),
+fn add_lines(alloc: Global, ast: &mut Ast, lines: &str) -> Result<(), Fail> {
+    for line in lines.lines() {
+        add(alloc, ast, line)?;
     }
+    Ok(())
 }
 
 /// The addresses of all instructions.
@@ -269,17 +242,6 @@ fn expect_counted(
     Ok(())
 }
 
-#[test]
-fn leave_what_is_counted_by_hand(rt: HostRuntime) -> Result<(), Fail> {
-    check(&rt, rt.alloc(), &[SELECTORS], Counted(&ROWS))
-}
-
-/// The same in a range that is long enough to be looked up.
-#[test]
-fn leave_the_same_of_a_long_range(rt: HostRuntime) -> Result<(), Fail> {
-    check(&rt, rt.alloc(), &[SELECTORS, OTHERS], Counted(&ROWS))
-}
-
 fn has_open(tried: &WithRows, range: &Range<usize>, name: &LocalName<'_>) -> bool {
     let instructions = tried.program.instructions.as_slice();
     tried
@@ -287,65 +249,18 @@ fn has_open(tried: &WithRows, range: &Range<usize>, name: &LocalName<'_>) -> boo
         .has_open(instructions, range, name, &name_hashes(name))
 }
 
-/// 48 selectors with no test of attributes.
-const PLAIN: &str = "\
-    h1:nth-child(1)\nh1:nth-child(2)\nh1:nth-child(3)\nh1:nth-child(4)\n\
-    h1:nth-child(5)\nh1:nth-child(6)\nh1:nth-child(7)\nh1:nth-child(8)\n\
-    h2:nth-child(1)\nh2:nth-child(2)\nh2:nth-child(3)\nh2:nth-child(4)\n\
-    h2:nth-child(5)\nh2:nth-child(6)\nh2:nth-child(7)\nh2:nth-child(8)\n\
-    h3:nth-child(1)\nh3:nth-child(2)\nh3:nth-child(3)\nh3:nth-child(4)\n\
-    h3:nth-child(5)\nh3:nth-child(6)\nh3:nth-child(7)\nh3:nth-child(8)\n\
-    h4:nth-child(1)\nh4:nth-child(2)\nh4:nth-child(3)\nh4:nth-child(4)\n\
-    h4:nth-child(5)\nh4:nth-child(6)\nh4:nth-child(7)\nh4:nth-child(8)\n\
-    h5:nth-child(1)\nh5:nth-child(2)\nh5:nth-child(3)\nh5:nth-child(4)\n\
-    h5:nth-child(5)\nh5:nth-child(6)\nh5:nth-child(7)\nh5:nth-child(8)\n\
-    h6:nth-child(1)\nh6:nth-child(2)\nh6:nth-child(3)\nh6:nth-child(4)\n\
-    h6:nth-child(5)\nh6:nth-child(6)\nh6:nth-child(7)\nh6:nth-child(8)";
-
-/// After the plain ones, from 48: a part of a value, one without case, one too short, a part of a second test, and a part of a word.
-const PARTS: &str = "\
-a[href^='http://xyz']
-[href$='.html' i]
-[href*='ads']
-a[href][title='long text']
-[data-k~=wordy]";
-
-/// Tags, and which of these each leaves, by address.
-static PART_ROWS: [LeftRow<'static>; 8] = [
-    (("a", &[("href", "http://xyz/q")]), &[48, 49, 50]),
-    (("a", &[("href", "http://XYZ/q")]), &[49, 50]),
-    (("b", &[("HREF", "http://xyz/q")]), &[49, 50]),
-    (
-        ("a", &[("href", "http"), ("href", "http://xyz")]),
-        &[49, 50],
-    ),
-    (
-        ("a", &[("href", "xyz"), ("title", "no text")]),
-        &[49, 50, 51],
-    ),
-    (("a", &[("title", "a tex t")]), &[]),
-    (("p", &[("data-k", "a wordy b")]), &[52]),
-    (("p", &[("data-k", "a word b"), ("class", "wordy")]), &[]),
-];
-
-/// A tag, and the addresses that it leaves.
-type LeftRow<'t> = (Tag<'t>, &'t [u32]);
-
-/// Expects each tag to leave these addresses.
-fn expect_left(
-    rt: &impl Abort,
-    alloc: Global,
-    tried: &WithRows,
-    rows: &[LeftRow<'_>],
-) -> Result<(), Fail> {
-    for (tag, wanted) in rows {
-        assert!(rt; leaves(alloc, tried, tag, wanted)?);
-    }
-    Ok(())
+fn check(rt: &impl Abort, alloc: Global, texts: &[&str], rows: &[Row<'_>]) -> Result<(), Fail> {
+    let tried = with_rows(alloc, texts)?;
+    expect_counted(rt, alloc, &tried, rows)
 }
 
-/// A node whose operand is compared with case is left where the value has the last bytes of the operand.
 #[test]
-fn leave_what_has_a_part_of_the_operand(rt: HostRuntime) -> Result<(), Fail> {
-    check(&rt, rt.alloc(), &[PLAIN, PARTS], Leaves(&PART_ROWS))
+fn leave_what_is_counted_by_hand(rt: HostRuntime) -> Result<(), Fail> {
+    check(&rt, rt.alloc(), &[SELECTORS], &ROWS)
+}
+
+/// The same in a range that is long enough to be looked up.
+#[test]
+fn leave_the_same_of_a_long_range(rt: HostRuntime) -> Result<(), Fail> {
+    check(&rt, rt.alloc(), &[SELECTORS, OTHERS], &ROWS)
 }

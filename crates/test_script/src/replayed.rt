@@ -1,4 +1,4 @@
-//! Scripts with their outputs, replayed.
+//! Scripts with their outputs, replayed: a wrong definition, with its code, fails.
 //!
 //! They were made by a slow model of the definitions, written apart from this project, which draws selectors and tags at random:
 //! first scripts of names and `*`, from a few names, then scripts of every kind. They were run through lol_html too: it answers

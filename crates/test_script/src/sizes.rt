@@ -1,4 +1,4 @@
-//! Great sizes with ample memory: out of memory is never answered.
+//! Great sizes with ample memory: a call that refuses at some size meets its contract.
 
 use crate::runs::{expect_run, lines};
 use lol_css::{Selector, SelectorError, SelectorList, SelectorsParser};
