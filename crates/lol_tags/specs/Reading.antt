@@ -1,5 +1,5 @@
 -- The tags of a stream of bytes, as places in it.
-use Rattle.std.specs.Prelude.{ℕ, ◌+◌, ◌*◌, ◌%◌, ◌^◌, Bool, true, false, ◌&&◌, ◌||◌, ◌==◌, nat_lt, if◌then◌else◌, List, fold, Option, Some, None, codes}
+use Rattle.std.specs.Prelude.{ℕ, ◌+◌, ◌-◌, ◌*◌, ◌%◌, ◌^◌, Bool, true, false, ◌&&◌, ◌||◌, ◌==◌, nat_lt, if◌then◌else◌, List, fold, Option, Some, None, codes}
 use Rattle.std.specs.Str.{byte}
 use Rattle.lol_tags.specs.Runs.{run, given}
 use Rattle.lol_tags.specs.States.{is_letter, next, is_in_tag, is_self_closing}
@@ -12,7 +12,7 @@ use Rattle.lol_tags.specs.declared.reader.TagReader.{TagReader}
 
 -- The code of a name with one more byte: five bits for each letter, in any case, of up to 12 letters; any other name has the last code.
 abbrev pub with_byte : ℕ → ℕ → ℕ
-with_byte code b = if nat_lt code (2 ^ 55) && is_letter b then code * 32 + b % 32 else 18446744073709551615
+with_byte code b = if nat_lt code (2 ^ 55) && is_letter b then code * 32 + b % 32 else 2 ^ 64 - 1
 
 abbrev pub name_code : List ℕ → ℕ
 name_code name = fold with_byte 0 name

@@ -1,11 +1,12 @@
 //! What holds of the tags of all streams: each function takes and gives nothing, and its contract is the law.
 
-ghost use Rattle.std.specs.Prelude.{◌≡◌, ◌+◌, ◌++◌, ◌∷◌, [], ℕ, Bool, true, false, ◌==◌, List, Some, length, codes, All};
+ghost use Rattle.std.specs.Prelude.{◌≡◌, ◌≢◌, ◌+◌, ◌-◌, ◌^◌, ◌++◌, ◌∷◌, [], ℕ, Bool, true, false, ◌==◌, List, Some, length, codes, All};
 ghost use Rattle.std.specs.Str.{byte};
 ghost use Rattle.std.specs.List.{concat};
+ghost use Rattle.lol_base.specs.Names.{lowercased};
 ghost use Rattle.lol_base.specs.StartTags.{IsInside, OutlineIsInside};
 ghost use Rattle.lol_tags.specs.Attributes.{outlines_of};
-ghost use Rattle.lol_tags.specs.Reading.{fresh, after, tags_from, tags_of, told_foreign};
+ghost use Rattle.lol_tags.specs.Reading.{name_code, fresh, after, tags_from, tags_of, told_foreign};
 ghost use Rattle.lol_tags.specs.Cuts.{tags_of_chunks};
 ghost use Rattle.lol_tags.specs.Places.{HasRead, needed_from, StandApart};
 ghost use Rattle.lol_tags.specs.Idling.{stop, Lacks};
@@ -61,4 +62,10 @@ pub fn attributes_stand_inside()
     ensures parts { (tag : List ℕ) (name_end : ℕ) → All (OutlineIsInside tag) (outlines_of tag name_end) }
     ensures whole { (tag : List ℕ) (name_end : ℕ)
         → All (λ outline. IsInside tag outline.raw_range) (outlines_of tag name_end) }
+{}
+
+/// The code of a name is that of no other: names with the same code are the same in lower case, if it isn't the last code. Those of the
+/// elements whose text is no markup are looked for by it.
+pub fn a_code_belongs_to_one_name()
+    ensures { (a b : List ℕ) → name_code a ≡ name_code b → name_code a ≢ 2 ^ 64 - 1 → lowercased a ≡ lowercased b }
 {}
