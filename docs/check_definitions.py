@@ -18,6 +18,7 @@ ROWS = [
     ("lol_laws", "worked_keys"),
     ("lol_reasons", "rows"),
     ("lol_script", "laws"),
+    ("lol_tags", "rows"),
     ("lol_vectors", "caseless_names"),
     ("lol_vectors", "void_names"),
     ("lol_vectors", "worked_answers"),
@@ -31,7 +32,7 @@ DECLARED = re.compile(CRATE + r"\.specs\.declared\.([\w.]+)")
 # A row or a test, as DEFINITIONS.md names it, and a clause of it.
 NAMED = re.compile(r"`((?:lol|test)_\w+)::((?:\w+::)*)(\w+)(?:, (\w+))?`")
 DECLARATION = re.compile(
-    r"^pub(?:\(crate\))? (?:(?:enum|struct) (\w+)[^;{]*\{.*?^\}|type (\w+)[^;]*;)", re.M | re.S
+    r"^(?:pub(?:\(crate\))? )?(?:(?:enum|struct) (\w+)[^;{]*\{.*?^\}|type (\w+)[^;]*;)", re.M | re.S
 )
 
 
@@ -101,7 +102,7 @@ class Definitions:
             self.add_type(match[1], names[0])
 
     def types_of(self, crate):
-        """The public types of a crate: the module of each, and its declaration."""
+        """The types of a crate: the module of each, and its declaration. Of two with one name the public one is meant."""
         if crate not in self.declarations:
             found = self.declarations[crate] = {}
             root = f"{self.crates}/{crate}/src"
@@ -109,7 +110,9 @@ class Definitions:
                 for file in sorted(files):
                     module = tuple(os.path.relpath(f"{base}/{file}", root)[: -len(".rt")].split("/"))
                     for match in DECLARATION.finditer(read(f"{base}/{file}")):
-                        found[match[1] or match[2]] = (module, match[0])
+                        name = match[1] or match[2]
+                        if name not in found or match[0].startswith("pub"):
+                            found[name] = (module, match[0])
         return self.declarations[crate]
 
     def add_type(self, crate, name):

@@ -44,6 +44,7 @@ tag_rows =
     ∷ has (codes "<a b=>c>") (codes "<a b=>" ∷ [])
     ∷ has (codes "<a b/=\">\">") (codes "<a b/=\">" ∷ [])
     ∷ has (codes "<a" ++ 13 ∷ codes "b" ++ 13 ∷ codes "=" ++ 13 ∷ codes "'>'>") ((codes "<a" ++ 13 ∷ codes "b" ++ 13 ∷ codes "=" ++ 13 ∷ codes "'>'>") ∷ [])
+    ∷ has (codes "<a b=" ++ 12 ∷ codes "'>'c=" ++ 9 ∷ codes "'>'d=" ++ 10 ∷ codes "'>'>") ((codes "<a b=" ++ 12 ∷ codes "'>'c=" ++ 9 ∷ codes "'>'d=" ++ 10 ∷ codes "'>'>") ∷ [])
     ∷ has (codes "<a" ++ 0 ∷ codes "b>") ((codes "<a" ++ 0 ∷ codes "b>") ∷ [])
     ∷ []
 
