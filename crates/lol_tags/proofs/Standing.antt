@@ -8,7 +8,7 @@ use Rattle.std.specs.Prelude.{Bool, true, false, cond, ◌==◌, ◌&&◌, ◌||
 use Rattle.lol_tags.specs.States.{next, next_in_script, is_in_tag}
 use Rattle.lol_tags.specs.Runs.{with_some}
 use Rattle.lol_tags.specs.Reading.{fresh, step, ended, ends, tag_at, closed, advanced, is_named, is_script, noted, spelled, after, tags_from, may_be_tag, text_state, told_foreign}
-use Rattle.lol_tags.specs.Places.{is_at_start, is_at_slash, has_name, name_start, HasRead, needed_from, Stands, StandApart}
+use Rattle.lol_tags.specs.Places.{is_at_start, is_at_slash, has_name, name_start, HasRead, needed_from, StandsFrom, StandApart}
 use Rattle.lol_tags.specs.declared.state.State.{State}
 use Rattle.lol_tags.specs.declared.state.State.TheVariants.{Data, TagOpen, RawTextLessThanSign, ScriptDataEscapedLessThanSign, ScriptDataDoubleEscapedLessThanSign, ScriptDataDoubleEscapeEnd, TagName, RawTextEndTagName, ScriptDataEscapedEndTagName, EndTagOpen, RawTextEndTagOpen, ScriptDataEscapedEndTagOpen}
 use Rattle.lol_tags.specs.declared.reader.Tag.{Tag}
@@ -324,7 +324,7 @@ needed-grows before r b h =
     let s = next r.state b (is_named r) (is_script r) r.foreign in
     needed-grows-at before r b s (may_be_tag s) (opens s) refl refl h (next-fits r.state b (is_named r) (is_script r) r.foreign)
 
-tag-stands : (before bytes : List ℕ) (r : TagReader) (b : ℕ) → ends r b ≡ true → HasRead before r → Stands (before ++ b ∷ bytes) (needed_from r) (tag_at r)
+tag-stands : (before bytes : List ℕ) (r : TagReader) (b : ℕ) → ends r b ≡ true → HasRead before r → StandsFrom (before ++ b ∷ bytes) (needed_from r) (tag_at r)
 tag-stands before bytes r b e h =
     let is : b ≡ 62 = eqb-true b 62 (and_left (b == 62) (is_in_tag r.state (is_named r)) e) in
     let open_tag : may_be_tag r.state ≡ true = in-tag r.state (is_named r) (and_right (b == 62) (is_in_tag r.state (is_named r)) e) in

@@ -40,7 +40,7 @@ abbrev pub needed_from : TagReader → ℕ
 needed_from r = if may_be_tag r.state then r.start else r.at
 
 -- A tag stands in a stream, at or behind a place: from a `<` to behind a `>`, and its name between them.
-pub record Stands (bytes : List ℕ) (from : ℕ) (tag : Tag) : Type 0 where
+pub record StandsFrom (bytes : List ℕ) (from : ℕ) (tag : Tag) : Type 0 where
   pub low : from ≤ tag.start
   pub named : name_start tag.start tag.is_end < tag.name_end
   pub some : tag.name_end < tag.end
@@ -50,4 +50,4 @@ pub record Stands (bytes : List ℕ) (from : ℕ) (tag : Tag) : Type 0 where
 -- Each tag begins at or behind the end of the tag before it.
 abbrev pub StandApart : List ℕ → ℕ → List Tag → Type 0
 StandApart bytes from [] = Unit {0}
-StandApart bytes from (tag ∷ tags) = Stands bytes from tag × StandApart bytes tag.end tags
+StandApart bytes from (tag ∷ tags) = StandsFrom bytes from tag × StandApart bytes tag.end tags

@@ -8,25 +8,25 @@ use Rattle.lol_tags.specs.declared.reader.Tag.{Tag}
 use Rattle.lol_tags.specs.declared.reader.TagReader.{TagReader}
 
 -- a text, and the texts of its tags
-pub record Row : Type 0 where
+pub record TextRow : Type 0 where
   pub text : List ℕ
   pub tags : List (List ℕ)
 
-abbrev pub has : List ℕ → List (List ℕ) → Row
+abbrev pub has : List ℕ → List (List ℕ) → TextRow
 has text tags = record { text = text; tags = tags }
 
 abbrev pub tag_texts : TagReader → List ℕ → List (List ℕ)
 tag_texts r bytes = map (λ (tag : Tag). slice_range bytes tag.start tag.end) (tags_from r bytes)
 
 -- what a reader gives for the texts of some rows, and what they say
-abbrev pub tags_by : TagReader → List Row → List (List (List ℕ))
-tags_by r rows = map (λ (row : Row). tag_texts r row.text) rows
+abbrev pub tags_by : TagReader → List TextRow → List (List (List ℕ))
+tags_by r rows = map (λ (row : TextRow). tag_texts r row.text) rows
 
-abbrev pub said : List Row → List (List (List ℕ))
-said rows = map (λ (row : Row). row.tags) rows
+abbrev pub said : List TextRow → List (List (List ℕ))
+said rows = map (λ (row : TextRow). row.tags) rows
 
 -- tags and what is none, and attributes
-abbrev pub tag_rows : List Row
+abbrev pub tag_rows : List TextRow
 tag_rows =
     has (codes "a<b>c</b >d") (codes "<b>" ∷ codes "</b >" ∷ [])
     ∷ has (codes "a<b") []
@@ -49,7 +49,7 @@ tag_rows =
     ∷ []
 
 -- comments
-abbrev pub comment_rows : List Row
+abbrev pub comment_rows : List TextRow
 comment_rows =
     has (codes "<!--><a><!---><b><!----><i>") (codes "<a>" ∷ codes "<b>" ∷ codes "<i>" ∷ [])
     ∷ has (codes "<!--a--!><b>") (codes "<b>" ∷ [])
@@ -64,7 +64,7 @@ comment_rows =
     ∷ []
 
 -- texts of elements
-abbrev pub text_rows : List Row
+abbrev pub text_rows : List TextRow
 text_rows =
     has (codes "<title><a></titles></TITLE b='>'><i>") (codes "<title>" ∷ codes "</TITLE b='>'>" ∷ codes "<i>" ∷ [])
     ∷ has (codes "<title></titles<a></b <i></ <u></title><b>") (codes "<title>" ∷ codes "</title>" ∷ codes "<b>" ∷ [])
@@ -78,11 +78,11 @@ text_rows =
     ∷ []
 
 -- what stands in a script, and is none of its tags
-abbrev pub in_script : List ℕ → Row
+abbrev pub in_script : List ℕ → TextRow
 in_script text = has (codes "<script>" ++ text ++ codes "</script b>") (codes "<script>" ∷ codes "</script b>" ∷ [])
 
 -- scripts, and what begins like a comment in them
-abbrev pub script_rows : List Row
+abbrev pub script_rows : List TextRow
 script_rows =
     in_script (codes "<a>")
     ∷ in_script (codes "<!--a-b--c---d< e</ f</g</h><i<j><script></script>")
@@ -109,17 +109,17 @@ script_rows =
 abbrev pub noscript : List ℕ
 noscript = codes "<noscript><b></noscript>"
 
-abbrev pub with_scripting : List Row
+abbrev pub with_scripting : List TextRow
 with_scripting = has noscript (codes "<noscript>" ∷ codes "</noscript>" ∷ []) ∷ []
 
-abbrev pub without_scripting : List Row
+abbrev pub without_scripting : List TextRow
 without_scripting = has noscript (codes "<noscript>" ∷ codes "<b>" ∷ codes "</noscript>" ∷ []) ∷ []
 
 -- in an element that is no HTML element
 abbrev pub in_foreign : TagReader
 in_foreign = told_foreign true (fresh false)
 
-abbrev pub foreign_rows : List Row
+abbrev pub foreign_rows : List TextRow
 foreign_rows =
     has (codes "<![CDATA[<a>]]]><i>") (codes "<i>" ∷ [])
     ∷ has (codes "<![CDATA[a]]b>]><a>]]><i>") (codes "<i>" ∷ [])
