@@ -2,11 +2,11 @@
 
 ghost use Rattle.lol_explaining_matcher.specs.PlainLaws.{LawsHold};
 
+use lol_laws::run_laws::told_tags_answer_alike;
 use lol_reasons::laws::{
     numbers_change_reports_alone, numbers_name_what_matches, reasons_explain_reports,
     texts_add_pairs,
 };
-use lol_laws::run_laws::told_tags_answer_alike;
 
 /// What leads from items under their numbers to the selectors as they were added.
 pub(crate) fn plain_laws()
