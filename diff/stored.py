@@ -18,7 +18,7 @@ NO_END = "‹no line end›"
 AGAIN = re.compile(r"([^‹›]{1,16}?)\1{9,}")
 MARK = re.compile(r"‹(?:(\d+) times ([^‹›]+)|([0-9a-f ]+))›")
 ROW = re.compile(r"‹(\d+) times›(?: |$)")
-WANTED, BYTES, COLUMNS = 2400, 1_450_000, 116
+WANTED, BYTES, COLUMNS = 3000, 1_600_000, 116
 OPERATOR = re.compile(r"\[[^]=]*?([~|^$*]?=)\s*(\"|'|)[^]]*?(\2\s*[iIsS])?\s*(\]|$)")
 FORMS = {"comment": r"/\*", "escape in hexadecimal": r"\\[0-9a-fA-F]", "escape": r"\\[^0-9a-fA-F]", "child": r">",
          "list": r",", "no namespace": r"(^|[\s>,(])\|", "any namespace": r"\*\|", "universal": r"(^|[\s>,(])\*",
