@@ -48,7 +48,8 @@ pub fn bytes_that_lead_nowhere_end_no_tag()
 /// What stands in a comment is no tag: here without `-`, and not a comment that its first `>` ends.
 pub fn comments_have_no_tags()
     ensures { (r : TagReader) (first : ℕ) (bytes : List ℕ) → r.state ≡ Data
-        → (first == byte ">") ≡ false → Lacks (byte "-") (first ∷ bytes) → tags_from r (codes "<!--" ++ (first ∷ bytes ++ codes "-->")) ≡ [] }
+        → (first == byte ">") ≡ false → Lacks (byte "-") (first ∷ bytes)
+        → tags_from r (codes "<!--" ++ (first ∷ bytes ++ codes "-->")) ≡ [] }
 {}
 
 /// What stands in a CDATA section is no tag, where the current node isn't an HTML element: here without `]`.
