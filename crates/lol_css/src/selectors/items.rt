@@ -82,7 +82,8 @@ pub(crate) fn add_compound<'a>(
     compound: Judged<'a, Compound>,
 ) -> Result<(), AllocError>
     ensures { OnOk result (judgement item_of item.new
-        ≡ judging.with_compound (judgement item_of item.old) (step_judgement step.entry) (judgement compound_of compound.entry)) }
+        ≡ judging.with_compound (judgement item_of item.old) (step_judgement step.entry)
+        (judgement compound_of compound.entry)) }
 {
     let compound = match compound {
         Judged::Kept(compound) => compound,

@@ -4,7 +4,7 @@ ghost use Rattle.std.specs.Prelude.{◌≡◌, ◌-◌, length, get_or};
 ghost use Rattle.lol_css.specs.Locating.{token_starts, point_offsets};
 
 use crate::syntax::points::ends_crlf;
-use crate::syntax::tokens::first_token;
+use crate::syntax::tokens::{FirstToken, first_token};
 
 /// How many code points stand before the token of this number; all of them where there are fewer tokens.
 pub(crate) fn points_before(points: &[char], token: usize) -> usize
@@ -12,7 +12,12 @@ pub(crate) fn points_before(points: &[char], token: usize) -> usize
 {
     let mut rest = points;
     let mut to_pass = token;
-    while let (Some(_), start, after) = first_token(rest) {
+    while let FirstToken {
+        token: Some(_),
+        start,
+        after,
+    } = first_token(rest)
+    {
         if to_pass == 0 {
             return points.len().saturating_sub(start.len());
         }

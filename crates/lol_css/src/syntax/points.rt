@@ -193,7 +193,8 @@ pub(crate) fn name_point(text: &[char]) -> Option<(char, &[char])>
     ensures shorter { IfSome result (λ x. length x.1.now < length text.now) }
 {
     match text {
-        [c, rest @ ..] if is_in_name(*c) => Some((*c, rest)),
+        // Most code points of names are small letters.
+        [c, rest @ ..] if c.is_ascii_lowercase() || is_in_name(*c) => Some((*c, rest)),
         ['\\', rest @ ..] if begins_escape(text) => Some(escaped_point(rest)),
         _ => None,
     }

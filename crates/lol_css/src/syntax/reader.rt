@@ -11,9 +11,8 @@ ghost use Rattle.lol_css.specs.declared.error.SelectorError.TheVariants.{Unexpec
 
 use crate::error::SelectorError;
 use crate::syntax::texts::Name;
-use crate::syntax::tokens::{Token, count_tokens, first_token};
+use crate::syntax::tokens::{FirstToken, Token, count_tokens, first_token};
 use std::marker::Model;
-use std::mem;
 
 /// What is open innermost.
 #[derive(Clone, Copy, Debug, PartialEq, Eq)]
@@ -26,11 +25,7 @@ pub(crate) enum Nesting {
 /// The tokens that are left.
 #[derive(Drop)]
 pub(crate) struct Reader<'a> {
-    ahead: Option<Token<'a>>,
-
-    /// The text from the next token on, and after it.
-    start: &'a [char],
-    text: &'a [char],
+    first: FirstToken<'a>,
 }
 
 impl<'a> Model for Reader<'a> {
@@ -43,33 +38,35 @@ impl<'a> Model for Reader<'a> {
     ghost use Rattle.lol_css.specs.Tokens.{tokens_of, with_first};
     ghost use Rattle.lol_css.specs.Views.{token_of};
 
-    ghost view = { λ r. with_first (option_map token_of r.ahead) (tokens_of r.text.now) };
+    ghost view = { λ r. with_first (option_map token_of r.first.token) (tokens_of r.first.after.now) };
 
-    ghost invariant = { λ r. (r.ahead ≡ None → tokens_of r.text.now ≡ [])
-        × (tokens_of r.start.now ≡ with_first (option_map token_of r.ahead) (tokens_of r.text.now)) };
+    ghost invariant = { λ r. (r.first.token ≡ None → tokens_of r.first.after.now ≡ [])
+        × (tokens_of r.first.start.now
+        ≡ with_first (option_map token_of r.first.token) (tokens_of r.first.after.now)) };
 }
 
 impl<'a> Reader<'a> {
     pub(crate) fn new(text: &'a [char]) -> Reader<'a>
         ensures { result ≡ tokens_of text.now }
     {
-        let (ahead, start, text) = first_token(text);
-        Reader { ahead, start, text }
+        Reader {
+            first: first_token(text),
+        }
     }
 
     /// The text of the tokens that are left.
     pub(crate) fn rest(&self) -> &'a [char]
         ensures { tokens_of result.now ≡ self.now }
     {
-        self.start
+        self.first.start
     }
 
     /// How many tokens are left.
     pub(crate) fn count(&self) -> usize
         ensures { result ≡ length self.now }
     {
-        match self.ahead {
-            Some(_) => 1 + count_tokens(self.text),
+        match self.first.token {
+            Some(_) => 1 + count_tokens(self.first.after),
             None => 0,
         }
     }
@@ -78,24 +75,14 @@ impl<'a> Reader<'a> {
     pub(crate) fn peek(&self) -> Option<Token<'a>>
         ensures { IsFirst self.now (option_map token_of result) (drop 1 self.now) }
     {
-        self.ahead
-    }
-
-    /// Takes the next token.
-    pub(crate) fn next(&mut self) -> Option<Token<'a>>
-        ensures { IsFirst self.old (option_map token_of result) self.new }
-    {
-        let (ahead, start, text) = first_token(self.text);
-        self.start = start;
-        self.text = text;
-        mem::replace(&mut self.ahead, ahead)
+        self.first.token
     }
 
     /// Passes the next token.
     pub(crate) fn advance(&mut self)
         ensures { self.new ≡ drop 1 self.old }
     {
-        let _ = self.next();
+        self.first = first_token(self.first.after);
     }
 
     /// Skips white space.

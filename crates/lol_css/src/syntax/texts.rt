@@ -1,7 +1,8 @@
 //! Names and quoted texts as they are written: they are copied only where they are kept.
 
-ghost use Rattle.std.specs.Prelude.{◌≡◌, ◌<◌, ◌≤◌, length, ◌++◌, OnOk, IfOk, IfSome, string_bytes};
+ghost use Rattle.std.specs.Prelude.{◌≡◌, ◌==◌, ◌<◌, ◌≤◌, length, ◌++◌, OnOk, IfOk, IfSome, string_bytes};
 ghost use Rattle.std.specs.Option.{option_to_list};
+ghost use Rattle.std.specs.Char.{to_ascii_lowercase};
 ghost use Rattle.std.specs.Str.{encode_utf8_all};
 ghost use Rattle.lol_css.specs.Tokens.{string_piece, string_escape, string_text};
 ghost use Rattle.lol_css.specs.Rules.{says, lowercase};
@@ -38,7 +39,7 @@ impl<'a> Name<'a> {
         let mut rest = self;
         for byte in word.as_bytes() {
             match rest.split_first() {
-                Some((c, after)) if c.to_ascii_lowercase() == char::from(*byte) => rest = after,
+                Some((c, after)) if is_byte(c, *byte) => rest = after,
                 _ => return false,
             }
         }
@@ -70,6 +71,15 @@ impl<'a> Name<'a> {
         }
         Ok(CssString::from_string(text))
     }
+}
+
+/// Whether a code point, lowercased if it is an ASCII letter, is this byte.
+fn is_byte(c: char, byte: u8) -> bool
+    ensures { result ≡ (to_ascii_lowercase c == byte) }
+{
+    let wanted = char::from(byte);
+    // Most code points are small letters.
+    c.is_ascii_lowercase() && c == wanted || c.to_ascii_lowercase() == wanted
 }
 
 /// A quoted text: its quote, and the text after the quote, escapes and all.

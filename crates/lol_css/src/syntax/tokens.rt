@@ -365,19 +365,38 @@ fn next(text: &[char]) -> Found<'_>
     delim(text)
 }
 
-/// The next token, the text from it on, and the text after it.
+/// The token that comes first, if there is one, and the text from it on and after it.
+#[derive(Clone, Copy)]
+pub(crate) struct FirstToken<'a> {
+    pub token: Option<Token<'a>>,
+    pub start: &'a [char],
+    pub after: &'a [char],
+}
+
 #[tactic(auto, using(crate::proofs::Streams::token_steps, crate::proofs::Places::start_steps))]
-pub(crate) fn first_token(text: &[char]) -> (Option<Token<'_>>, &[char], &[char])
-    ensures first { IsFirst (tokens_of text.now) (option_map token_of result.0) (tokens_of result.2.now) }
-    ensures whole { tokens_of result.1.now ≡ tokens_of text.now }
+pub(crate) fn first_token(text: &[char]) -> FirstToken<'_>
+    ensures first { IsFirst (tokens_of text.now) (option_map token_of result.token) (tokens_of result.after.now) }
+    ensures whole { tokens_of result.start.now ≡ tokens_of text.now }
     ensures starts { IsFirst (token_starts text.now)
-        (option_map (λ _. length result.1.now) result.0) (token_starts result.2.now) }
+        (option_map (λ _. length result.start.now) result.token) (token_starts result.after.now) }
 {
     let mut rest = text;
     loop {
         match next(rest) {
-            None => return (None, rest, rest),
-            Some((Some(token), after)) => return (Some(token), rest, after),
+            None => {
+                return FirstToken {
+                    token: None,
+                    start: rest,
+                    after: rest,
+                };
+            }
+            Some((Some(token), after)) => {
+                return FirstToken {
+                    token: Some(token),
+                    start: rest,
+                    after,
+                };
+            }
             Some((None, after)) => rest = after,
         }
     }
@@ -390,7 +409,12 @@ pub(crate) fn count_tokens(text: &[char]) -> usize
 {
     let mut count = 0;
     let mut rest = text;
-    while let (Some(_), _, after) = first_token(rest) {
+    while let FirstToken {
+        token: Some(_),
+        after,
+        ..
+    } = first_token(rest)
+    {
         count += 1;
         rest = after;
     }
