@@ -151,7 +151,7 @@ impl<'i> LocalName<'i> {
     #[inline(always)]
     pub fn into_owned(self, alloc: Global) -> Result<LocalName<'static>, AllocError>
         ensures same { IfOk result (λ name. name ≡ self.entry) }
-        ensures free { IsNone self.entry.spelling → IsOk result }
+        ensures no_memory { IsNone self.entry.spelling → IsOk result }
     {
         let LocalName { code, kept } = self;
         let kept = match kept {
@@ -166,7 +166,7 @@ impl<'i> LocalName<'i> {
     #[inline(always)]
     pub fn try_clone(&self, alloc: Global) -> Result<LocalName<'static>, AllocError>
         ensures same { IfOk result (λ name. name ≡ self.now) }
-        ensures free { IsNone self.now.spelling → IsOk result }
+        ensures no_memory { IsNone self.now.spelling → IsOk result }
     {
         let kept = match &self.kept {
             Kept::Hash => Kept::Hash,

@@ -108,6 +108,3 @@ holds_from p xs i x some within at here others = ap (list_all p) (drop_before xs
 
 pub none_yet : {A : Type 0} (p : A → Bool) (xs : List A) (i : ℕ) (x : A) → i < length xs → x ≡ get_or xs i x → p x ≡ false → list_any p xs ≡ list_any p (drop i xs) → list_any p xs ≡ list_any p (drop (i + 1) xs)
 none_yet p xs i x within at here h = h ∙ ap (list_any p) (drop_here xs i x within at) ∙ ap (λ (b : Bool). b || list_any p (drop (i + 1) xs)) here
-
-pub some_here : {A : Type 0} (p : A → Bool) (xs : List A) (i : ℕ) (x : A) → i < length xs → x ≡ get_or xs i x → p x ≡ true → list_any p xs ≡ list_any p (drop i xs) → list_any p xs ≡ true
-some_here p xs i x within at here h = h ∙ ap (list_any p) (drop_here xs i x within at) ∙ ap (λ (b : Bool). b || list_any p (drop (i + 1) xs)) here

@@ -187,11 +187,6 @@ module _ (ws vs both : List SparseWord) (i j n : ℕ) (sparse : IsSparse ws) (sp
     ]
 
 -- ---- the words of sets that are merged
-pub placed_sparse : (list : List ℕ) (ws : List SparseWord) → 0 < length list → IsScattered list (length list) ws → IsSparse ws
-placed_sparse list ws some all =
-    let first = all.first some in
-    record { some = first.0; first = first.1; ascend = all.ascend; held = all.held }
-
 pub placed_same : (list : List ℕ) (ws : List SparseWord) → IsScattered list (length list) ws → (j : ℕ) → word_at ws j ≡ get_or list j 0
 placed_same list ws all j = elim (cases_lt j (length list)) [
   | inl near ↦ all.same j near

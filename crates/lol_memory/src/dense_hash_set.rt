@@ -59,7 +59,7 @@ impl DenseHashSet {
     /// Adds an id. It is refused only where memory is wanted and isn't there: never where the set has room for the id.
     pub fn insert(&mut self, id: MatchId) -> Result<(), AllocError>
         ensures ok { OnOk result (self.new ≡ with_id self.old id) }
-        ensures free { HasRoom self.old id → IsOk result }
+        ensures no_memory { HasRoom self.old id → IsOk result }
         ensures err { OnErr result (self.new ≡ self.old) }
     {
         self.words.add(self.alloc, id / 32, 1 << (id % 32))?;
@@ -70,7 +70,7 @@ impl DenseHashSet {
     /// anew from those of both. It is refused only where memory is wanted and isn't there: never where the set has room for each of these ids.
     pub fn union(&mut self, other: &DenseHashSet) -> Result<(), AllocError>
         ensures ok { OnOk result (self.new ≡ joined self.old other.now) }
-        ensures free { HasRoomFor self.old other.now → IsOk result }
+        ensures no_memory { HasRoomFor self.old other.now → IsOk result }
         ensures err { OnErr result (self.new ≡ self.old) }
     {
         match other.words.as_list() {
@@ -85,7 +85,7 @@ impl DenseHashSet {
     /// Adds the ids of `other`, of which one alone is added in place.
     fn add_sparse(&mut self, other: &DenseHashSet) -> Result<(), AllocError>
         ensures ok { OnOk result (self.new ≡ joined self.old other.now) }
-        ensures free { HasRoomFor self.old other.now → IsOk result }
+        ensures no_memory { HasRoomFor self.old other.now → IsOk result }
         ensures err { OnErr result (self.new ≡ self.old) }
     {
         let mut ids = other.iter();
@@ -102,7 +102,7 @@ impl DenseHashSet {
     /// Adds the ids of `other`: in place where there is room for each, or else by words that are made anew from those of both.
     fn add_each(&mut self, other: &DenseHashSet) -> Result<(), AllocError>
         ensures ok { OnOk result (self.new ≡ joined self.old other.now) }
-        ensures free { HasRoomFor self.old other.now → IsOk result }
+        ensures no_memory { HasRoomFor self.old other.now → IsOk result }
         ensures err { OnErr result (self.new ≡ self.old) }
     {
         if self.has_room_for(other) {
@@ -141,7 +141,7 @@ impl DenseHashSet {
     /// An equal set (for Rust's `Clone`). Ids below 32 alone take no memory.
     pub fn try_clone(&self) -> Result<DenseHashSet, AllocError>
         ensures ok { IfOk result (λ set. set ≡ self.now) }
-        ensures free { AllSmall self.now → IsOk result }
+        ensures no_memory { AllSmall self.now → IsOk result }
     {
         Ok(DenseHashSet {
             words: self.words.try_clone(self.alloc)?,

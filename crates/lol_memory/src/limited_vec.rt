@@ -118,7 +118,7 @@ impl<T> LimitedVec<T> {
         T: Drop,
         ensures ok { OnOk result (self.new ≡ pushed self.old element) }
         ensures charged { OnOk result (limiter.new ≡ charged limiter.old (grown_slots self.old * self.old.item_bytes)) }
-        ensures free { length self.old.items < self.old.slots → IsOk result }
+        ensures no_memory { length self.old.items < self.old.slots → IsOk result }
         ensures limited { IsErrOf result (PushError.Limit (record {})) ↔ IsLimited self.old limiter.old }
         ensures err { OnErr result (self.new ≡ self.old) }
         ensures err_limiter { OnErr result (limiter.new ≡ limiter.old) }
@@ -146,7 +146,7 @@ impl<T> LimitedVec<T> {
         ensures ok { OnOk result (self.new ≡ record self.old { slots = self.old.slots + grown_slots self.old }) }
         ensures room { OnOk result (length self.new.items < self.new.slots) }
         ensures charged { OnOk result (limiter.new ≡ charged limiter.old (grown_slots self.old * self.old.item_bytes)) }
-        ensures free { length self.old.items < self.old.slots → IsOk result }
+        ensures no_memory { length self.old.items < self.old.slots → IsOk result }
         ensures limited { IsErrOf result (PushError.Limit (record {})) ↔ IsLimited self.old limiter.old }
         ensures err { OnErr result (self.new ≡ self.old) }
         ensures err_limiter { OnErr result (limiter.new ≡ limiter.old) }

@@ -92,7 +92,7 @@ impl Words {
         requires bits { bits ≢ 0 }
         ensures form { IsInForm self.new }
         ensures ok { OnOk result (IsMarked (words_of self.old) (words_of self.new) number bits) }
-        ensures free { HasWord self.old number → IsOk result }
+        ensures no_memory { HasWord self.old number → IsOk result }
         ensures err { OnErr result (words_of self.new ≡ words_of self.old) }
     {
         if self.has_word(number) {
@@ -190,7 +190,7 @@ impl Words {
         ensures list { IsList self.new }
         ensures form { OnErr result (IsInForm self.new) }
         ensures ok { OnOk result (IsJoined (words_of self.old) more.now (words_of self.new)) }
-        ensures free { length more.now ≤ length (words_of self.old) → IsOk result }
+        ensures no_memory { length more.now ≤ length (words_of self.old) → IsOk result }
         ensures err { OnErr result (words_of self.new ≡ words_of self.old) }
     {
         if self.word_count() < more.len() {
@@ -290,7 +290,7 @@ impl Words {
         requires { IsInForm self.now }
         ensures ok { IfOk result (λ words. words_of words ≡ words_of self.now) }
         ensures form { IfOk result (λ words. IsInForm words) }
-        ensures free { length (words_of self.now) ≡ 1 → IsOk result }
+        ensures no_memory { length (words_of self.now) ≡ 1 → IsOk result }
     {
         Ok(match self {
             Words::Inline(word) => Words::Inline(*word),

@@ -174,7 +174,7 @@ impl Ast {
         ensures keeps_fit { (match_id : ℕ) (items : List ComplexSelector) (ids : List IdForNode)
             → id_in id ≡ Some match_id → AllFit match_id (trees_of self.old) items ids
             → AllFit match_id (trees_of self.new) items ids }
-        ensures free { IsInWith (Fits id) (trees_of self.old) item.now → IsOk result }
+        ensures no_memory { IsInWith (Fits id) (trees_of self.old) item.now → IsOk result }
         ensures rows { is_with_rows self.new ≡ is_with_rows self.old }
     {
         ast_node::add_path(

@@ -56,7 +56,7 @@ fn index_for(
     requires differ { SiblingsDiffer (forest_of nodes.old.items) }
     ensures index { IfOk result
         (HasIndex (tests_of_compound compound.now) (map node_of nodes.old.items) (map node_of nodes.new.items)) }
-    ensures free { OnErr result (IsNowhere (tests_of_compound compound.now) (map node_of nodes.old.items)) }
+    ensures no_memory { OnErr result (IsNowhere (tests_of_compound compound.now) (map node_of nodes.old.items)) }
     ensures unchanged { OnErr result (nodes.new.items ≡ nodes.old.items) }
     ensures count { node_index.new.node_count + size (forest_of nodes.old.items)
         ≡ node_index.old.node_count + size (forest_of nodes.new.items) }
@@ -96,8 +96,8 @@ pub(crate) fn add_path(
     ensures partly { OnErr result ((k : ℕ)
         × AddsFirst k (tests_of_compound first.now) (steps_of rest.now)
         (forest_of nodes.old.items) (forest_of nodes.new.items)) }
-    ensures free { StandsWith (Fits id) (tests_of_compound first.now) (steps_of rest.now) (forest_of nodes.old.items)
-        → IsOk result }
+    ensures no_memory { StandsWith (Fits id) (tests_of_compound first.now) (steps_of rest.now)
+        (forest_of nodes.old.items) → IsOk result }
     ensures count { node_index.new.node_count + size (forest_of nodes.old.items)
         ≡ node_index.old.node_count + size (forest_of nodes.new.items) }
     ensures indexed { IsIndexed node_index.new list.old (forest_of nodes.new.items) }

@@ -127,7 +127,7 @@ impl Layout {
     #[cycle(compile)]
     fn compile_nodes(&mut self, nodes: &mut [AstNode]) -> Result<(), AllocError>
         requires { self.old.free_space_start + size (forest_of nodes.old) ≤ length self.old.instructions.items }
-        ensures free { OnOk result (self.new.free_space_start
+        ensures free_space { OnOk result (self.new.free_space_start
             ≡ self.old.free_space_start + size (forest_of nodes.old)) }
         ensures by_type { OnOk result (self.new.enable_nth_of_type
             ≡ (self.old.enable_nth_of_type || any_by_type (forest_of nodes.old))) }
@@ -150,7 +150,7 @@ impl Layout {
     fn compile_list(&mut self, nodes: &mut [AstNode]) -> Result<Option<AddressRange>, AllocError>
         requires { self.old.free_space_start + size (forest_of nodes.old) ≤ length self.old.instructions.items }
         ensures range { IfOk result (λ r. r ≡ range_of (forest_of nodes.old) self.old.free_space_start) }
-        ensures free { OnOk result (self.new.free_space_start
+        ensures free_space { OnOk result (self.new.free_space_start
             ≡ self.old.free_space_start + size (forest_of nodes.old)) }
         ensures by_type { OnOk result (self.new.enable_nth_of_type
             ≡ (self.old.enable_nth_of_type || any_by_type (forest_of nodes.old))) }
@@ -174,7 +174,7 @@ impl Layout {
             + (size (node_of node.old).children + size (node_of node.old).descendants)
             ≤ length self.old.instructions.items }
         requires address { address < self.old.free_space_start }
-        ensures free { OnOk result (self.new.free_space_start
+        ensures free_space { OnOk result (self.new.free_space_start
             ≡ self.old.free_space_start + (size (node_of node.old).children + size (node_of node.old).descendants)) }
         ensures by_type { OnOk result (self.new.enable_nth_of_type
             ≡ (self.old.enable_nth_of_type || any_by_type (link (node_of node.old) none))) }
@@ -205,7 +205,7 @@ impl Layout {
             self.old.instructions.items self.new.instructions.items) }
         ensures by_type { OnOk result (self.new.enable_nth_of_type
             ≡ (self.old.enable_nth_of_type || has_test_by_type (tests_of predicate.old))) }
-        ensures free { self.new.free_space_start ≡ self.old.free_space_start }
+        ensures free_space { self.new.free_space_start ≡ self.old.free_space_start }
     {
         let no_tests = Predicate {
             tests: Vec::new(self.alloc),
@@ -234,7 +234,7 @@ impl Layout {
         ensures jumps { HasJumps address jumps hereditary_jumps self.old.instructions.items
             self.new.instructions.items }
         ensures by_type { self.new.enable_nth_of_type ≡ self.old.enable_nth_of_type }
-        ensures free { self.new.free_space_start ≡ self.old.free_space_start }
+        ensures free_space { self.new.free_space_start ≡ self.old.free_space_start }
     {
         let branch = &mut self.instructions[address].associated_branch;
         branch.jumps = jumps;
@@ -247,7 +247,7 @@ impl Layout {
             map compiled_key_test (tests_in compiled) ≡ key_tests (tests_of predicate)) }
         ensures by_type { OnOk result (self.new.enable_nth_of_type
             ≡ (self.old.enable_nth_of_type || has_test_by_type (tests_of predicate))) }
-        ensures free { self.new.free_space_start ≡ self.old.free_space_start }
+        ensures free_space { self.new.free_space_start ≡ self.old.free_space_start }
         ensures instructions { self.new.instructions ≡ self.old.instructions }
     {
         let tests = compile_tests(self.alloc, predicate.tests, &mut self.enable_nth_of_type)?;

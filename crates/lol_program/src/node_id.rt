@@ -38,7 +38,7 @@ impl IdForNode {
         requires { IsReserved self → Fits self (ascending ids.old) }
         ensures added { OnOk result (SetTakes (id_in self) ids.old ids.new) }
         ensures unchanged { OnErr result (ids.new ≡ ids.old) }
-        ensures free { Fits self (ascending ids.old) → IsOk result }
+        ensures no_memory { Fits self (ascending ids.old) → IsOk result }
     {
         match self {
             IdForNode::Nothing => Ok(()),
@@ -72,7 +72,7 @@ fn insert_reserved(ids: &mut DenseHashSet, reserved: ReservedId) -> Result<(), A
     requires { reserved.set ≡ with_id ids.old reserved.id }
     ensures added { OnOk result (ids.new ≡ with_id ids.old reserved.id) }
     ensures unchanged { OnErr result (ids.new ≡ ids.old) }
-    ensures free { IsOk result }
+    ensures no_memory { IsOk result }
 {
     let ReservedId { id, set } = reserved;
     // An equal item of the same list may have brought the id.

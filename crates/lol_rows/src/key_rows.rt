@@ -52,7 +52,7 @@ impl KeyRows {
     ) -> Result<(), AllocError>
         ensures left { OnOk result ((kind : RowKind) → CanFind kind instructions.now self.now keys.now
             → left.new.items ≡ left.old.items ++ passing (leaves keys.now) instructions.now range.now) }
-        ensures free { (kind : RowKind) → CanFind kind instructions.now self.now keys.now
+        ensures no_memory { (kind : RowKind) → CanFind kind instructions.now self.now keys.now
             → length left.old.items + length (passing (leaves keys.now) instructions.now range.now)
             ≤ vec_capacity left.old → IsOk result }
         ensures capacity { vec_capacity left.old ≤ vec_capacity left.new }

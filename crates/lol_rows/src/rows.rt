@@ -133,7 +133,7 @@ impl Rows {
     ) -> Result<(), AllocError>
         ensures left { OnOk result (AreRowsOf instructions.now self.now → AreItsHashes instructions.now keys.now
             → left.new.items ≡ left.old.items ++ passing (leaves keys.now) instructions.now range.now) }
-        ensures free { AreRowsOf instructions.now self.now → AreItsHashes instructions.now keys.now
+        ensures no_memory { AreRowsOf instructions.now self.now → AreItsHashes instructions.now keys.now
             → length left.old.items + length (passing (leaves keys.now) instructions.now range.now)
             ≤ vec_capacity left.old → IsOk result }
         ensures capacity { vec_capacity left.old ≤ vec_capacity left.new }

@@ -56,7 +56,7 @@ impl<'t, 'h> TagKeys<'t, 'h> {
     ) -> Result<(), AllocError>
         ensures left { OnOk result (length instructions.now < 2 ^ 32
             → left.new.items ≡ left.old.items ++ passing (leaves self.now) instructions.now range.now) }
-        ensures free { length instructions.now < 2 ^ 32
+        ensures no_memory { length instructions.now < 2 ^ 32
             → length left.old.items + length (passing (leaves self.now) instructions.now range.now)
             ≤ vec_capacity left.old → IsOk result }
         ensures capacity { vec_capacity left.old ≤ vec_capacity left.new }

@@ -61,7 +61,7 @@ impl AddressRanges {
     /// Adds a range at the end. The first takes no memory.
     pub fn push(&mut self, alloc: Global, range: AddressRange) -> Result<(), AllocError>
         ensures ok { OnOk result (self.new ≡ self.old ++ range ∷ []) }
-        ensures free { self.old ≡ [] → IsOk result }
+        ensures no_memory { self.old ≡ [] → IsOk result }
         ensures err { OnErr result (self.new ≡ self.old) }
     {
         match &mut self.ranges {
@@ -84,7 +84,7 @@ impl AddressRanges {
         range: &Option<AddressRange>,
     ) -> Result<(), AllocError>
         ensures ok { OnOk result (self.new ≡ with_range self.old range.now) }
-        ensures free { IsNone range.now → IsOk result }
+        ensures no_memory { IsNone range.now → IsOk result }
         ensures err { OnErr result (self.new ≡ self.old) }
     {
         match range {

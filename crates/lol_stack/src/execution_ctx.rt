@@ -52,7 +52,7 @@ impl<'i, E: ElementData> ExecutionCtx<'i, E> {
     ) -> Result<(), AllocError>
         ensures ok { OnOk result (self.new ≡ with_branch E.ids E.with_ids self.old branch.now) }
         ensures content { self.new.with_content ≡ self.old.with_content }
-        ensures free { NeedsNoMemory self.old.with_content branch.now → IsOk result }
+        ensures no_memory { NeedsNoMemory self.old.with_content branch.now → IsOk result }
         ensures err { OnErr result (self.new ≡ self.old) }
     {
         if self.with_content {
@@ -86,7 +86,7 @@ impl<'i, E: Drop> ExecutionCtx<'i, E> {
     /// The same, whose name borrows nothing. A name that is a hash takes no memory.
     pub fn into_owned(self, alloc: Global) -> Result<ExecutionCtx<'static, E>, AllocError>
         ensures same { IfOk result (λ ctx. ctx ≡ self.entry) }
-        ensures free { IsNone self.entry.stack_item.local_name.spelling → IsOk result }
+        ensures no_memory { IsNone self.entry.stack_item.local_name.spelling → IsOk result }
     {
         let ExecutionCtx {
             stack_item,

@@ -149,7 +149,7 @@ impl<E> StackOf<LocalName<'static>, StackNames, E> {
         ensures slots { KeepsSlots self.old self.new }
         ensures full { (result ≡ Err AddChildError.CounterFull) ↔ (last_count self.old ≡ full_count) }
         ensures room { OnOk result (last_count self.old < full_count) }
-        ensures free { IsNone (typed_in self.old) → OnErr result (result ≡ Err AddChildError.CounterFull) }
+        ensures no_memory { IsNone (typed_in self.old) → OnErr result (result ≡ Err AddChildError.CounterFull) }
         ensures err { OnErr result (self.new ≡ self.old) }
     {
         if self.child_counter().is_full() {
@@ -334,7 +334,7 @@ impl StackNames {
     #[inline(always)]
     fn count_child(&mut self, name: &LocalName<'_>, level: usize) -> Result<(), AllocError>
         ensures ok { OnOk result (self.new ≡ counted_if_kept self.old level name.now) }
-        ensures free { IsNone self.old.typed_child_counters → IsOk result }
+        ensures no_memory { IsNone self.old.typed_child_counters → IsOk result }
         ensures err { OnErr result (self.new ≡ self.old) }
     {
         match &mut self.typed_child_counters {

@@ -72,7 +72,7 @@ impl<N, E: ElementData> StackItemOf<N, E> {
     /// Adds ids to those of the element's data. Ids below 32 alone take no memory.
     pub(crate) fn add_ids(&mut self, ids: &DenseHashSet) -> Result<(), AllocError>
         ensures ok { OnOk result (self.new ≡ with_more_ids E.ids E.with_ids self.old ids.now) }
-        ensures free { AllSmall ids.now → IsOk result }
+        ensures no_memory { AllSmall ids.now → IsOk result }
         ensures err { OnErr result (self.new ≡ self.old) }
     {
         let element_data = &mut self.element_data;
@@ -88,7 +88,7 @@ impl<N, E> StackItemOf<N, E> {
         branch: &ExecutionBranch,
     ) -> Result<(), AllocError>
         ensures ok { OnOk result (self.new ≡ with_ranges self.old branch.now) }
-        ensures free { IsNone branch.now.jumps → IsNone branch.now.hereditary_jumps → IsOk result }
+        ensures no_memory { IsNone branch.now.jumps → IsNone branch.now.hereditary_jumps → IsOk result }
         ensures err { OnErr result (self.new ≡ self.old) }
     {
         self.jumps.extend(alloc, &branch.jumps)?;
@@ -116,7 +116,7 @@ impl<'i, E: Drop> StackItemOf<LocalName<'i>, E> {
     #[inline(always)]
     pub fn into_owned(self, alloc: Global) -> Result<StackItem<'static, E>, AllocError>
         ensures same { IfOk result (λ item. item ≡ self.entry) }
-        ensures free { IsNone self.entry.local_name.spelling → IsOk result }
+        ensures no_memory { IsNone self.entry.local_name.spelling → IsOk result }
     {
         let StackItemOf {
             local_name,

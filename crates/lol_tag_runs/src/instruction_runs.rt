@@ -36,7 +36,7 @@ pub(crate) fn try_instructions<E: ElementData>(
     ensures attributes { attributes_counted tries.new ≡ attributes_counted tries.old }
     ensures name { ctx.new.stack_item.local_name ≡ ctx.old.stack_item.local_name }
     ensures content { ctx.new.with_content ≡ ctx.old.with_content }
-    ensures free { NeedNoMemory ctx.old.with_content instructions.now → IsOk result }
+    ensures no_memory { NeedNoMemory ctx.old.with_content instructions.now → IsOk result }
 {
     for (at, instruction) in instructions.iter().enumerate() {
         let name = &ctx.stack_item.local_name;
@@ -72,7 +72,7 @@ pub(crate) fn exec_instructions<E: ElementData>(
         ≤ attributes_counted tries.old + open_among (sight state.now ctx.old.stack_item.local_name) instructions.now }
     ensures name { ctx.new.stack_item.local_name ≡ ctx.old.stack_item.local_name }
     ensures content { ctx.new.with_content ≡ ctx.old.with_content }
-    ensures free { NeedNoMemory ctx.old.with_content instructions.now → IsOk result }
+    ensures no_memory { NeedNoMemory ctx.old.with_content instructions.now → IsOk result }
 {
     for instruction in instructions {
         let name = &ctx.stack_item.local_name;
@@ -108,7 +108,7 @@ pub(crate) fn complete_instructions<E: ElementData>(
         ≤ attributes_counted tries.old + open_among (sight state.now ctx.old.stack_item.local_name) instructions.now }
     ensures name { ctx.new.stack_item.local_name ≡ ctx.old.stack_item.local_name }
     ensures content { ctx.new.with_content ≡ ctx.old.with_content }
-    ensures free { NeedNoMemory ctx.old.with_content instructions.now → IsOk result }
+    ensures no_memory { NeedNoMemory ctx.old.with_content instructions.now → IsOk result }
 {
     let Some((first, others)) = instructions.split_first() else {
         return Ok(());
@@ -130,7 +130,7 @@ pub(crate) fn instructions_in<'p>(
     ensures value { IsInsideOf instructions.now range.now → HasTriesLeft tries.now (range.now.end - range.now.start)
         → result.now ≡ instructions_at instructions.now range.now }
     ensures room { HasTriesLeft tries.now (length result.now) }
-    ensures free { (content : Bool) → NeedNoMemory content instructions.now → NeedNoMemory content result.now }
+    ensures no_memory { (content : Bool) → NeedNoMemory content instructions.now → NeedNoMemory content result.now }
 {
     let (names, attributes) = (tries.names(), tries.attributes());
     if range.start > range.end || range.end > instructions.len() {

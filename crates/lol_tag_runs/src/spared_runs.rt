@@ -69,7 +69,7 @@ pub fn find_by_name<E>(
     ensures left { IfOk result (λ asks. asks ≡ false → HasItsRows program.now → has_rows program.now ≡ true
         → space.new.left.items ≡ all_passing (is_left_by_name name.now.lowercased) program.now.instructions.items
         (ranges_to_run_in program.now stack.now)) }
-    ensures free { HasItsRows program.now
+    ensures no_memory { HasItsRows program.now
         → (has_rows program.now ≡ true
         → HasRoomFor space.old (length (all_addresses (ranges_to_run_in program.now stack.now)))) → IsOk result }
     ensures room { vec_capacity space.old.left ≤ vec_capacity space.new.left }
@@ -97,7 +97,7 @@ pub fn find_at<E>(
     ensures left { OnOk result (HasItsRows program.now → has_rows program.now ≡ true → space.new.left.items
         ≡ all_passing (left_at_point name.now.lowercased matcher.now point) program.now.instructions.items
         (ranges_to_run_in program.now stack.now)) }
-    ensures free { HasItsRows program.now
+    ensures no_memory { HasItsRows program.now
         → (has_rows program.now ≡ true
         → HasRoomFor space.old (length (all_addresses (ranges_to_run_in program.now stack.now)))) → IsOk result }
     ensures room { vec_capacity space.old.left ≤ vec_capacity space.new.left }
@@ -133,7 +133,7 @@ fn find_unless_open(
         ≡ list_any (some_pass (is_left_open name.now.lowercased) instructions.now) (all_ranges ranges.entry)) }
     ensures left { IfOk result (λ asks. asks ≡ false → AreRowsOf instructions.now rows.now → space.new.left.items
         ≡ all_passing (is_left_by_name name.now.lowercased) instructions.now (all_ranges ranges.entry)) }
-    ensures free { AreRowsOf instructions.now rows.now
+    ensures no_memory { AreRowsOf instructions.now rows.now
         → HasRoomFor space.old (length (all_addresses (all_ranges ranges.entry))) → IsOk result }
     ensures room { vec_capacity space.old.left ≤ vec_capacity space.new.left }
 {
@@ -158,7 +158,7 @@ fn find_left_by_name<'t>(
     ensures left { OnOk result (AreRowsOf instructions.now rows.now → hashes.now ≡ hashes_of name.now.lowercased
         → space.new.left.items
         ≡ all_passing (is_left_by_name name.now.lowercased) instructions.now (all_ranges ranges.entry)) }
-    ensures free { AreRowsOf instructions.now rows.now → hashes.now ≡ hashes_of name.now.lowercased
+    ensures no_memory { AreRowsOf instructions.now rows.now → hashes.now ≡ hashes_of name.now.lowercased
         → HasRoomFor space.old (length (all_addresses (all_ranges ranges.entry))) → IsOk result }
     ensures room { vec_capacity space.old.left ≤ vec_capacity space.new.left }
 {
@@ -187,7 +187,7 @@ fn find_left_by_keys<'t>(
 ) -> Result<(), AllocError>
     ensures left { OnOk result (AreRowsOf instructions.now rows.now → space.new.left.items
         ≡ all_passing (is_left_by_keys name.now.lowercased matcher.now) instructions.now (all_ranges ranges.entry)) }
-    ensures free { AreRowsOf instructions.now rows.now
+    ensures no_memory { AreRowsOf instructions.now rows.now
         → HasRoomFor space.old (length (all_addresses (all_ranges ranges.entry))) → IsOk result }
     ensures room { vec_capacity space.old.left ≤ vec_capacity space.new.left }
     ensures hashes { AreAmong space.new.hashes.items (tag_hashes name.now.lowercased matcher.now) }
@@ -239,7 +239,7 @@ fn add_left(
     ensures left { OnOk result (AreRowsOf instructions.now rows.now → AreItsHashes instructions.now keys.now
         → left.new.items
         ≡ left.old.items ++ all_passing (leaves keys.now) instructions.now (all_ranges ranges.entry)) }
-    ensures free { AreRowsOf instructions.now rows.now → AreItsHashes instructions.now keys.now
+    ensures no_memory { AreRowsOf instructions.now rows.now → AreItsHashes instructions.now keys.now
         → length left.old.items + length (all_addresses (all_ranges ranges.entry)) ≤ vec_capacity left.old → IsOk result }
     ensures room { vec_capacity left.old ≤ vec_capacity left.new }
 {

@@ -196,7 +196,7 @@ impl<'p, R: TagRanges> TagRun<'p, R> {
             (R.listed self.now.ranges) tries.old tries.new 0 }
         ensures name { ctx.new.stack_item.local_name ≡ ctx.old.stack_item.local_name }
         ensures content { ctx.new.with_content ≡ ctx.old.with_content }
-        ensures free { NeedNoMemory ctx.old.with_content self.now.instructions.now → IsOk result }
+        ensures no_memory { NeedNoMemory ctx.old.with_content self.now.instructions.now → IsOk result }
     {
         let state = self.state;
         for index in 0..self.ranges.len() {
@@ -229,7 +229,7 @@ impl<'p, R: TagRanges> TagRun<'p, R> {
             (drop first (R.listed self.now.ranges)) tries.old tries.new 0 }
         ensures name { ctx.new.stack_item.local_name ≡ ctx.old.stack_item.local_name }
         ensures content { ctx.new.with_content ≡ ctx.old.with_content }
-        ensures free { NeedNoMemory ctx.old.with_content self.now.instructions.now → IsOk result }
+        ensures no_memory { NeedNoMemory ctx.old.with_content self.now.instructions.now → IsOk result }
     {
         let state = self.state;
         for index in first..self.ranges.len() {
@@ -260,7 +260,7 @@ impl<'p, R: TagRanges> TagRun<'p, R> {
             (ranges_left (R.listed self.now.ranges) point) tries.old tries.new (tried_at point) }
         ensures name { ctx.new.stack_item.local_name ≡ ctx.old.stack_item.local_name }
         ensures content { ctx.new.with_content ≡ ctx.old.with_content }
-        ensures free { NeedNoMemory ctx.old.with_content self.now.instructions.now → IsOk result }
+        ensures no_memory { NeedNoMemory ctx.old.with_content self.now.instructions.now → IsOk result }
     {
         match point {
             RecoveryPoint::AtOnce => self.exec_from(0, matcher, ctx, tries),
@@ -288,7 +288,7 @@ impl<'p, R: TagRanges> TagRun<'p, R> {
             (ranges_from (R.listed self.now.ranges) stop) tries.old tries.new 1 }
         ensures name { ctx.new.stack_item.local_name ≡ ctx.old.stack_item.local_name }
         ensures content { ctx.new.with_content ≡ ctx.old.with_content }
-        ensures free { NeedNoMemory ctx.old.with_content self.now.instructions.now → IsOk result }
+        ensures no_memory { NeedNoMemory ctx.old.with_content self.now.instructions.now → IsOk result }
     {
         if stop.range >= self.ranges.len() {
             return Ok(());

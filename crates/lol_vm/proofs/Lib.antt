@@ -20,6 +20,7 @@ pub mod Stops
 pub mod Kept
 pub mod Answered
 pub mod Whole
+mod ReportLengths
 pub mod Children
 pub mod StackCounting
 pub mod GatheringLemmas

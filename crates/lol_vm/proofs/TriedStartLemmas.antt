@@ -299,7 +299,7 @@ module _ {E R : Type 0} {ids : E → Ids} {with_ids : E → Ids → E} {vm new :
   never_refused free = by_namespace (is_html tag.namespace) is_tried_so
     where
       by_namespace : (b : Bool) → IsTriedAs ids with_ids start new ctx next result b opens → IsOk result
-      by_namespace true h = h.free st.sparing.rows (λ rows. omega (arith, st.sparing.room rows, few_addresses running)) (subst (λ b. NeedNoMemory b vm.program.instructions.items) (sym opens_is_so) free)
+      by_namespace true h = h.no_memory st.sparing.rows (λ rows. omega (arith, st.sparing.room rows, few_addresses running)) (subst (λ b. NeedNoMemory b vm.program.instructions.items) (sym opens_is_so) free)
       by_namespace false h = subst (λ r. IsOk r) (sym h.0) refl
 
   module _ (new_is : new ≡ ended) where

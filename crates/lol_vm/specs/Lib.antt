@@ -11,6 +11,7 @@ pub mod Vms
 pub mod TriedStarts
 pub mod VmLending
 pub mod Collecting
+pub mod ReportRoom
 pub mod Follows
 pub mod EventRuns
 pub mod Premises

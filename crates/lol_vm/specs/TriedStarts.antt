@@ -63,7 +63,7 @@ module _ {E R : Type 0} (ids : E → Ids) (with_ids : E → Ids → E) (old new 
     pub within : HasItsRows old.program → is_open_at_once ≡ false → AreRunnable (instructions_in old) tried_ranges old.tries
         → AreWithin (sight_in old.stack tag_name) (instructions_in old) tried_ranges old.tries new.tries 0
     pub untried : HasItsRows old.program → is_open_at_once ≡ true → new.tries ≡ old.tries
-    pub free : HasItsRows old.program → (has_rows old.program ≡ true → HasRoomFor old.space (length (all_addresses (ranges_to_try old)))) → NeedNoMemory content (instructions_in old) → IsOk result
+    pub no_memory : HasItsRows old.program → (has_rows old.program ≡ true → HasRoomFor old.space (length (all_addresses (ranges_to_try old)))) → NeedNoMemory content (instructions_in old) → IsOk result
 
   -- a tag that isn't of HTML needs its attributes at once
   abbrev pub IsTriedAs : Bool → Bool → Type 0
@@ -94,7 +94,7 @@ pub record IsCompleted {E R : Type 0} (ids : E → Ids) (with_ids : E → Ids �
   pub within : HasItsRows old.program → IsPointIn (instructions_in old) (ranges_to_complete old ctx point seen) point
       → AreRunnable (instructions_in old) (ranges_left (ranges_to_complete old ctx point seen) point) old.tries
       → (new.tries ≡ old.tries) ⊎ AreWithin (sight_in old.stack ctx.stack_item.local_name) (instructions_in old) (ranges_left (ranges_to_complete old ctx point seen) point) old.tries new.tries (tried_at point)
-  pub free : HasItsRows old.program → (has_rows old.program ≡ true → HasRoomFor old.space (length (all_addresses (ranges_to_try old)))) → NeedNoMemory ctx.with_content (instructions_in old) → IsOk result
+  pub no_memory : HasItsRows old.program → (has_rows old.program ≡ true → HasRoomFor old.space (length (all_addresses (ranges_to_try old)))) → NeedNoMemory ctx.with_content (instructions_in old) → IsOk result
 
 -- A start tag was counted, and tried by its name.
 pub record IsBegun {E : Type 0} (ids : E → Ids) (with_ids : E → Ids → E) (old new : Vm E) (ctx next : ExecutionCtx E) (stopped : Option RecoveryPoint) : Type 0 where

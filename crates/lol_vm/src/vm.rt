@@ -1,6 +1,6 @@
 //! The machine, tag by tag.
 
-ghost use Rattle.std.specs.Prelude.{List, Bool, Err, ℕ, ◌≡◌, ◌≤◌, ◌<◌, ◌^◌, ◌-◌, ◌*◌, ◌↔◌, ◌⊎◌, ◌++◌, ◌∷◌, [], true, false, take, drop, length, slice_get, OnOk, OnErr, Some, None, IfOk, IfErr, IsOk, IsSome, IsErrOf, IsNone};
+ghost use Rattle.std.specs.Prelude.{List, Bool, Err, ℕ, ◌≡◌, ◌≤◌, ◌<◌, ◌^◌, ◌-◌, ◌*◌, ◌↔◌, ◌⊎◌, ◌++◌, ◌∷◌, [], true, false, take, drop, length, slice_get, OnOk, OnErr, Some, None, IfOk, IfErr, IsOk, IsSome, IfSome, IsErrOf, IsNone, vec_capacity};
 ghost use Rattle.std.specs.Option.{option_copied_mut, option_map};
 ghost use Rattle.std.specs.Borrow.{sem};
 ghost use Rattle.lol_base.specs.StartTags.{StartTag, RangesAreInside};
@@ -18,6 +18,7 @@ ghost use Rattle.lol_vm.specs.VmErrors.{IsAskedOrFull};
 ghost use Rattle.lol_vm.specs.Due.{IsDue, IsNeverForMemory, IsAfterHandedReport, IsAfterReport, IsNeverPending, IsAfterWholeReport, IsWithinLimit};
 ghost use Rattle.lol_vm.specs.Premises.{ForAskedOf, ForEndOf, ForHandedOf, ForPending, ForRestOf, ForTagOf};
 ghost use Rattle.lol_program.specs.ProgramViews.{has_rows};
+ghost use Rattle.lol_vm.specs.ReportRoom.{ids_listed};
 ghost use Rattle.lol_vm.specs.TriedStarts.{IsBegun, IsCompleted, IsNewContext, IsTried, IsTriedByName, left_at};
 ghost use Rattle.lol_tag_runs.specs.SparedRuns.{HasRoom, stopped_by};
 ghost use Rattle.lol_vm.specs.VmLending.{lends_current_of_vm};
@@ -27,7 +28,9 @@ ghost use Rattle.lol_vm.specs.Vms.{Stands, HasOpen, IsNameOf, IsTagOf, IsAnswere
 
 use crate::error::{AuxStartTagInfoRequest, StartTagError, VmError};
 use lol_base::{AuxStartTagInfo, LocalName, Namespace};
-use lol_memory::{MatchInfo, MemoryLimitExceededError, PushError, SharedMemoryLimiter};
+use lol_memory::{
+    DenseHashSet, MatchInfo, MemoryLimitExceededError, PushError, SharedMemoryLimiter,
+};
 use lol_program::{Ast, AttributeMatcher, Compiler, Program, Tries};
 use lol_stack::{
     ElementData, ExecutionCtx, Stack, StackDirective, StackItem, StackItemOf, StackNames, StackOf,
@@ -142,6 +145,22 @@ impl<E: ElementData> VmOf<Program, LocalName<'static>, StackNames, E> {
         Ok(VmOf::with_parts(alloc, program, enable_esi_tags, stack, space))
     }
 
+    /// An empty list with room for every report: no start tag is reported under more ids than the nodes have. (Not in lol_html.)
+    ///
+    /// # Errors
+    /// Out of memory.
+    pub fn list_for_reports(&self) -> Result<Vec<MatchInfo>, AllocError>
+        ensures empty { IfOk result (λ list. list.items ≡ []) }
+        ensures room { IfOk result (λ list. vec_capacity list ≡ ids_listed (program_in self.now)) }
+    {
+        let mut count: usize = 0;
+        for instruction in &self.program.instructions {
+            let ids = count_ids(&instruction.associated_branch.matched_ids).ok_or(AllocError)?;
+            count = count.checked_add(ids).ok_or(AllocError)?;
+        }
+        Vec::with_capacity(self.alloc, count)
+    }
+
     /// Matches a start tag: counts it, reports it and, if its element has content, opens it.
     ///
     /// Where its attributes are needed, or it isn't of HTML, nothing is reported, and it answers a request for them: finished by
@@ -179,7 +198,7 @@ impl<E: ElementData> VmOf<Program, LocalName<'static>, StackNames, E> {
         ensures limited { IsErrOf result (VmError.MemoryLimitExceeded (record {})) → IsDue self.old limiter.old
             × ForTagOf self.old local_name.entry ns (λ s esi events tag. (has_content esi tag ≡ true)
             × IsReported F.step s esi events tag false (tries_in self.new) match_handler.old match_handler.new) }
-        ensures free { (error : VmError E) → result ≡ Err error
+        ensures no_memory { (error : VmError E) → result ≡ Err error
             → ForTagOf self.old local_name.entry ns (λ s esi events tag. TakesNoMemory s tag → IsAskedOrFull error) }
         ensures tried { ForTagOf self.old local_name.entry ns (λ s esi events tag.
             IsTriedAtMost s esi events tag (tries_in self.new)) }
@@ -240,7 +259,7 @@ impl<E: ElementData> VmOf<Program, LocalName<'static>, StackNames, E> {
             × ForHandedOf self.old local_name.entry ns (Some aux_info.entry) (λ s esi events tag.
             (has_content esi tag ≡ true) × IsReported F.step s esi events tag (is_asked_for s esi events tag)
             (tries_in self.new) match_handler.old match_handler.new) }
-        ensures free { IfErr result (λ error. ForTagOf self.old local_name.entry ns (λ s esi events tag.
+        ensures no_memory { IfErr result (λ error. ForTagOf self.old local_name.entry ns (λ s esi events tag.
             TakesNoMemory s tag → error ≡ StartTagError.CounterFull)) }
         ensures tried { ForTagOf self.old local_name.entry ns (λ s esi events tag. NeedsRest s aux_info.entry tag
             → IsTriedAtMost s esi events tag (tries_in self.new)) }
@@ -285,7 +304,7 @@ impl<E: ElementData> VmOf<Program, LocalName<'static>, StackNames, E> {
             ↔ ((has_failed self.old ≡ false) × (last_count (stack_in self.old) ≡ full_count)) }
         ensures refused { OnErr result (has_failed self.new ≡ true) }
         ensures unlimited { result ≡ Err StartTagError.MemoryLimitExceeded → ⊥ }
-        ensures free { IfErr result (λ error. ForTagOf self.old ctx.old.stack_item.local_name ctx.old.ns
+        ensures no_memory { IfErr result (λ error. ForTagOf self.old ctx.old.stack_item.local_name ctx.old.ns
             (λ s esi events tag. TakesNoMemory s tag ⊎ AreFlat s → error ≡ StartTagError.CounterFull)) }
         ensures tried { ForTagOf self.old ctx.old.stack_item.local_name ctx.old.ns (λ s esi events tag.
             IsTriedAtMost s esi events tag (tries_in self.new)) }
@@ -388,7 +407,7 @@ impl<E: ElementData> VmOf<Program, LocalName<'static>, StackNames, E> {
     /// A request for the rest of a tag, which owns what is known of it.
     fn request(&mut self, ctx: ExecutionCtx<'_, E>, point: RecoveryPoint) -> Result<(), VmError<E>>
         ensures requested { IsRequested ctx.entry point self.old self.new result }
-        ensures free { IsNone ctx.entry.stack_item.local_name.spelling → self.new ≡ self.old }
+        ensures no_memory { IsNone ctx.entry.stack_item.local_name.spelling → self.new ≡ self.old }
         ensures tries { self.new.tries ≡ self.old.tries }
     {
         match ctx.into_owned(self.alloc) {
@@ -458,7 +477,7 @@ impl<E: ElementData> VmOf<Program, LocalName<'static>, StackNames, E> {
         ensures limited { IsErrOf result (PushError.Limit (record {})) → IsDue self.old limiter.old
             × ForRestOf self.old E.ids request aux_info.entry (λ s esi events tag. (has_content esi tag ≡ true)
             × IsReported F.step s esi events tag true (tries_in self.new) match_handler.old match_handler.new) }
-        ensures free { ForPending self.old E.ids request (λ s esi events tag. TakesNoMemory s tag → IsOk result) }
+        ensures no_memory { ForPending self.old E.ids request (λ s esi events tag. TakesNoMemory s tag → IsOk result) }
         ensures tried { ForPending self.old E.ids request (λ s esi events tag. NeedsRest s aux_info.entry tag
             → IsTriedAtMost s esi events tag (tries_in self.new)) }
         ensures due { (error : AllocError) → result ≡ Err (PushError.Memory error) → IsDue self.old limiter.old
@@ -495,7 +514,7 @@ impl<E: ElementData> VmOf<Program, LocalName<'static>, StackNames, E> {
             × ForRestOf self.old E.ids (left_at ctx.entry point) aux_info.entry (λ s esi events tag.
             (has_content esi tag ≡ true)
             × IsReported F.step s esi events tag true (tries_in self.new) match_handler.old match_handler.new) }
-        ensures free { ForPending self.old E.ids (left_at ctx.entry point) (λ s esi events tag.
+        ensures no_memory { ForPending self.old E.ids (left_at ctx.entry point) (λ s esi events tag.
             TakesNoMemory s tag → IsOk result) }
         ensures tried { ForPending self.old E.ids (left_at ctx.entry point) (λ s esi events tag.
             NeedsRest s aux_info.entry tag → IsTriedAtMost s esi events tag (tries_in self.new)) }
@@ -657,4 +676,15 @@ fn content_in(ns: Namespace, with_content: bool, self_closing: bool) -> bool
         Namespace::Html => with_content,
         Namespace::Svg | Namespace::MathML => !self_closing,
     }
+}
+
+/// How many ids a set has, if a `usize` can count them.
+fn count_ids(ids: &DenseHashSet) -> Option<usize>
+    ensures { IfSome result (λ count. count ≡ length (ascending ids.now)) }
+{
+    let mut count: usize = 0;
+    for _id in ids.iter() {
+        count = count.checked_add(1)?;
+    }
+    Some(count)
 }

@@ -1,6 +1,7 @@
 //! What those who go tag by tag rely on: each function takes and gives nothing, and its contract is the law.
 
 ghost use Rattle.lol_vm.specs.FreeTags.{FlatPairs, SmallPairs};
+ghost use Rattle.lol_vm.specs.ReportRoom.{ReportsAreFew};
 ghost use Rattle.lol_vm.specs.VmLaws.{DataChangeNothing, DataKeepOpen, DataKeepRequests, LastDataAreLent, LastDataChange, PendingStands, RangesHoldOnce, RequestsTryAtMost, SlotsAreOfDepth, StandingCounts, StandingHasOpen, TriesAreFew};
 
 /// What a caller writes into the data of the last open element changes no later report, no open element, and no request.
@@ -50,6 +51,11 @@ pub fn ranges_hold_once<E>()
 /// No more nodes are tried for a start tag than there are, nor more for its attributes than by its name.
 pub fn tries_are_few()
     ensures { TriesAreFew }
+{}
+
+/// The list that `list_for_reports` makes has room for each report.
+pub fn reports_are_few<E>()
+    ensures { ReportsAreFew E }
 {}
 
 /// Selectors whose ids are below 32 and which have no test by type are small; those that are single compounds besides are flat.

@@ -103,17 +103,17 @@ returns-in-Descendant-clause-indexed t c =
     let stays = indexed_under fc old mid i n at is last list grown in
     set_indexed fc old mid i n at is last list (record { predicate = (out-AstNode n).predicate; children = (out-AstNode n).children; descendants = c.add_path-in-Descendant.new.nodes; match_ids = (out-AstNode n).match_ids }) grown refl (stays.0, subst (λ (l : DefaultHasher). IsIndexed last l (forest_of c.add_path-in-Descendant.new.nodes.items)) next c.add_path-in-Descendant.ensures.indexed)
 
-pub returns-in_err-index-clause-free : goal.returns-in_err-index-clause-free
-returns-in_err-index-clause-free t c stands =
-    absurd (stands_nowhere (Fits c.args.id) (tests_of_compound c.args.first.now) (steps_of c.args.rest.now) (map node_of c.args.nodes.now.items) c.in_err-index.ensures.free stands)
+pub returns-in_err-index-clause-no_memory : goal.returns-in_err-index-clause-no_memory
+returns-in_err-index-clause-no_memory t c stands =
+    absurd (stands_nowhere (Fits c.args.id) (tests_of_compound c.args.first.now) (steps_of c.args.rest.now) (map node_of c.args.nodes.now.items) c.in_err-index.ensures.no_memory stands)
 
 pub add_to-requires : goal.add_to-requires
 add_to-requires t c reserved =
     stands_last (Fits c.args.id) (tests_of_compound c.args.first.now) c.args.rest.now c.args.nodes.now.items c.index_for.new.nodes.items c.in_ok-index.index c.index_mut-node.result.now c.in-None.ensures.cases c.in_ok-index.ensures.index c.index_mut-node.ensures.value (c.requires.fits reserved)
 
-pub returns-in-None-clause-free : goal.returns-in-None-clause-free
-returns-in-None-clause-free t c stands =
-    c.add_to.ensures.free
+pub returns-in-None-clause-no_memory : goal.returns-in-None-clause-no_memory
+returns-in-None-clause-no_memory t c stands =
+    c.add_to.ensures.no_memory
     (stands_last (Fits c.args.id) (tests_of_compound c.args.first.now) c.args.rest.now c.args.nodes.now.items c.index_for.new.nodes.items c.in_ok-index.index c.index_mut-node.result.now c.in-None.ensures.cases c.in_ok-index.ensures.index c.index_mut-node.ensures.value stands)
 
 pub returns-in-None-clause-added : goal.returns-in-None-clause-added
@@ -192,9 +192,9 @@ returns-in-Child-clause-partly t c =
     ))
     c.add_path.ensures.partly
 
-pub returns-in-Child-clause-free : goal.returns-in-Child-clause-free
-returns-in-Child-clause-free t c stands =
-    c.add_path.ensures.free
+pub returns-in-Child-clause-no_memory : goal.returns-in-Child-clause-no_memory
+returns-in-Child-clause-no_memory t c stands =
+    c.add_path.ensures.no_memory
     (stands_next (Fits c.args.id) (tests_of_compound c.args.first.now) c.args.rest.now c.in-Some.rest.now c.in-Some.field-0-0.now Child c.args.nodes.now.items c.index_for.new.nodes.items c.in_ok-index.index c.index_mut-node.result.now c.in-Some.ensures.cases.0 c.in-Child.is c.in_ok-index.ensures.index c.index_mut-node.ensures.value stands)
 
 pub returns-in-Child-clause-count : goal.returns-in-Child-clause-count
@@ -240,9 +240,9 @@ returns-in-Descendant-clause-partly t c =
     ))
     c.add_path-in-Descendant.ensures.partly
 
-pub returns-in-Descendant-clause-free : goal.returns-in-Descendant-clause-free
-returns-in-Descendant-clause-free t c stands =
-    c.add_path-in-Descendant.ensures.free
+pub returns-in-Descendant-clause-no_memory : goal.returns-in-Descendant-clause-no_memory
+returns-in-Descendant-clause-no_memory t c stands =
+    c.add_path-in-Descendant.ensures.no_memory
     (stands_next (Fits c.args.id) (tests_of_compound c.args.first.now) c.args.rest.now c.in-Some.rest.now c.in-Some.field-0-0.now Descendant c.args.nodes.now.items c.index_for.new.nodes.items c.in_ok-index.index c.index_mut-node.result.now c.in-Some.ensures.cases.0 c.in-Descendant.is c.in_ok-index.ensures.index c.index_mut-node.ensures.value stands)
 
 pub returns-in-Descendant-clause-count : goal.returns-in-Descendant-clause-count

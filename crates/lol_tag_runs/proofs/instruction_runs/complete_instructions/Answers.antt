@@ -36,9 +36,9 @@ pub returns-clause-attributes : goal.returns-clause-attributes
 returns-clause-attributes g c =
     IfOk-weaker c.exec_instructions.result _ _ (λ done counted. omega (arith, counted, c.complete_exec_with_attrs.ensures.attributes, opens g c)) c.exec_instructions.ensures.attributes
 
-pub returns-clause-free : goal.returns-clause-free
-returns-clause-free g c = λ free.
-    c.exec_instructions.ensures.free (subst (λ b. NeedNoMemory b c.in-Some.others.now) (sym (content g c)) (All-tail (λ (i : Instruction). NeedsNoMemory c.args.ctx.now.with_content i.associated_branch) c.in-Some.first.now c.in-Some.others.now (subst (NeedNoMemory c.args.ctx.now.with_content) (split g c) free)))
+pub returns-clause-no_memory : goal.returns-clause-no_memory
+returns-clause-no_memory g c = λ free.
+    c.exec_instructions.ensures.no_memory (subst (λ b. NeedNoMemory b c.in-Some.others.now) (sym (content g c)) (All-tail (λ (i : Instruction). NeedsNoMemory c.args.ctx.now.with_content i.associated_branch) c.in-Some.first.now c.in-Some.others.now (subst (NeedNoMemory c.args.ctx.now.with_content) (split g c) free)))
 
 pub returns-clause-attributes_bound : goal.returns-clause-attributes_bound
 returns-clause-attributes_bound g c = omega (arith, c.exec_instructions.ensures.attributes_bound, c.complete_exec_with_attrs.ensures.attributes, opens g c)

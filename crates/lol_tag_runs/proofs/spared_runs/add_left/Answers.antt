@@ -12,8 +12,8 @@ use Rattle.lol_tag_runs.proofs.spared_runs.add_left.Goals as goal
 pub loop-index-init : goal.loop-index-init
 loop-index-init c = record { left = λ rows its. sym (append-nil c.args.left.now.items); room = omega arith }
 
-pub returns-in_err-add_left-clause-free : goal.returns-in_err-add_left-clause-free
-returns-in_err-add_left-clause-free c = λ rows its room.
+pub returns-in_err-add_left-clause-no_memory : goal.returns-in_err-add_left-clause-no_memory
+returns-in_err-add_left-clause-no_memory c = λ rows its room.
     let p = leaves c.args.keys.now in
     let instructions = c.args.instructions.now in
     let ranges = all_ranges c.args.ranges in
@@ -23,7 +23,7 @@ returns-in_err-add_left-clause-free c = λ rows its room.
     let most = passing_most p instructions r in
     let so_far = ap length (c.loop-index.invariant.left rows its) in
     let sum = length-append c.args.left.now.items (all_passing p instructions (take c.loop-index.index ranges)) in
-    absurd (err_is_not_ok c.add_left.result c.in_err-add_left.field-0.0 c.in_err-add_left.was (c.add_left.ensures.free rows its (omega (arith, room, fits, most, so_far, sum, c.loop-index.invariant.room))))
+    absurd (err_is_not_ok c.add_left.result c.in_err-add_left.field-0.0 c.in_err-add_left.was (c.add_left.ensures.no_memory rows its (omega (arith, room, fits, most, so_far, sum, c.loop-index.invariant.room))))
 
 pub loop-index-preserved : goal.loop-index-preserved
 loop-index-preserved c =

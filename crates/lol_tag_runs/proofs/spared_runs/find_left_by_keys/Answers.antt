@@ -17,9 +17,9 @@ returns-clause-left c =
     ∙ (λ i. c.clear-2.ensures.items i ++ all_passing (leaves_seen (c.new-keys.ensures.name i).lowercased (c.new-keys.ensures.attributes i)) c.args.instructions.now (all_ranges c.args.ranges)))
     c.add_left.ensures.left
 
-pub returns-clause-free : goal.returns-clause-free
-returns-clause-free c = λ rows room.
-    c.add_left.ensures.free rows
+pub returns-clause-no_memory : goal.returns-clause-no_memory
+returns-clause-no_memory c = λ rows room.
+    c.add_left.ensures.no_memory rows
     (its_by_added c.args.instructions.now c.args.rows.now c.new-keys.result c.args.name.now c.args.matcher.now c.add_hashes.result c.is_ok-are_hashed.result c.as_slice.result c.then_some-hashes.result c.add_hashes.new.hashes.items
     c.new-keys.ensures.name c.new-keys.ensures.attributes c.new-keys.ensures.hashes c.is_ok-are_hashed.ensures.value c.then_some-hashes.ensures c.as_slice.ensures.value c.add_hashes.ensures.each rows)
     (omega (arith, room, ap length c.clear-2.ensures.items, c.clear-2.ensures.capacity))

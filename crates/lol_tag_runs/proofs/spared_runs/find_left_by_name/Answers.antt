@@ -14,8 +14,8 @@ returns-clause-left c =
     ∙ (λ i. c.clear.ensures.items i ++ all_passing (leaves_seen (c.new-keys.ensures.name i).lowercased (c.new-keys.ensures.attributes i)) c.args.instructions.now (all_ranges c.args.ranges)))
     c.add_left.ensures.left
 
-pub returns-clause-free : goal.returns-clause-free
-returns-clause-free c = λ rows own room.
-    c.add_left.ensures.free rows
+pub returns-clause-no_memory : goal.returns-clause-no_memory
+returns-clause-no_memory c = λ rows own room.
+    c.add_left.ensures.no_memory rows
     (its_by_name c.args.instructions.now c.new-keys.result c.args.hashes.now c.new-keys.ensures.attributes c.new-keys.ensures.hashes (own ∙ ap (λ n. name_hashes n.lowercased) (sym c.new-keys.ensures.name)))
     (omega (arith, room, ap length c.clear.ensures.items, c.clear.ensures.capacity))

@@ -20,13 +20,13 @@ module _ (c : After-insert) where
 pub returns-in-Some-None-clause-ok : goal.returns-in-Some-None-clause-ok
 returns-in-Some-None-clause-ok c = subst (λ s. OnOk c.insert.result (c.insert.new.self ≡ s)) (one c) c.insert.ensures.ok
 
-pub returns-in-Some-None-clause-free : goal.returns-in-Some-None-clause-free
-returns-in-Some-None-clause-free c room = c.insert.ensures.free (room c.in-Some-None.id (held c))
+pub returns-in-Some-None-clause-no_memory : goal.returns-in-Some-None-clause-no_memory
+returns-in-Some-None-clause-no_memory c room = c.insert.ensures.no_memory (room c.in-Some-None.id (held c))
 
-pub returns-in_err-self-clause-free : goal.returns-in_err-self-clause-free
-returns-in_err-self-clause-free c room =
+pub returns-in_err-self-clause-no_memory : goal.returns-in_err-self-clause-no_memory
+returns-in_err-self-clause-no_memory c room =
     let none : c.args.self.now ≡ no_ids = none_held c.args.self.now c.iter.result c.next-3.new.self c.next-3.result c.iter.ensures.items c.if-is_none.ensures c.next-3.ensures.steps in
-    absurd (true≢false (sym (subst IsOk c.in_err-self.was (c.try_clone.ensures.free (room_in_none c.args.self.now c.args.other.now none room)))))
+    absurd (true≢false (sym (subst IsOk c.in_err-self.was (c.try_clone.ensures.no_memory (room_in_none c.args.self.now c.args.other.now none room)))))
 
 pub returns-then-is_none-clause-ok : goal.returns-then-is_none-clause-ok
 returns-then-is_none-clause-ok c =

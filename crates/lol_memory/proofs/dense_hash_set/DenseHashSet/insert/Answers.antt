@@ -6,10 +6,10 @@ use Rattle.lol_memory.proofs.WordsLemmas.{marked}
 use Rattle.lol_memory.proofs.FormLemmas.{word_of_room}
 use Rattle.lol_memory.proofs.dense_hash_set.DenseHashSet.insert.Goals as goal
 
-pub returns-in_err-add-clause-free : goal.returns-in_err-add-clause-free
-returns-in_err-add-clause-free c room =
+pub returns-in_err-add-clause-no_memory : goal.returns-in_err-add-clause-no_memory
+returns-in_err-add-clause-no_memory c room =
     let there = word_of_room c.self.inside.words c.self.invariant.0 c.self.invariant.1 c.args.id (subst (λ s. HasRoom s c.args.id) (sym c.self.view_is) room) in
-    absurd (true≢false (sym (subst IsOk c.in_err-add.was (c.add.ensures.free there))))
+    absurd (true≢false (sym (subst IsOk c.in_err-add.was (c.add.ensures.no_memory there))))
 
 pub invariant_of-self-2 : goal.invariant_of-self-2
 invariant_of-self-2 c =

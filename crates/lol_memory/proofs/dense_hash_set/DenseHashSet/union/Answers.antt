@@ -7,15 +7,15 @@ use Rattle.lol_memory.proofs.WordsLemmas.{joined}
 use Rattle.lol_memory.proofs.FormLemmas.{words_of_room, joined_in_form, list_dense, some_words}
 use Rattle.lol_memory.proofs.dense_hash_set.DenseHashSet.union.Goals as goal
 
-pub returns-in_err-join-in-Some-clause-free : goal.returns-in_err-join-in-Some-clause-free
-returns-in_err-join-in-Some-clause-free c room =
+pub returns-in_err-join-in-Some-clause-no_memory : goal.returns-in_err-join-in-Some-clause-no_memory
+returns-in_err-join-in-Some-clause-no_memory c room =
     let here = c.self.inside.words in
     let more = c.other.inside.words in
     let list : IsList here = search rules in
     let alike = subst (λ s. HasRoomFor s (ids_held (words_of more))) (sym c.self.view_is) (subst (λ s. HasRoomFor c.args.self.now s) (sym c.other.view_is) room) in
     let enough = words_of_room here (words_of more) c.self.invariant.0 c.self.invariant.1 list c.other.invariant.0 alike in
     let within : length c.in-Some.more.now ≤ length (words_of here) = rw c.in-Some.ensures.some enough in
-    absurd (true≢false (sym (subst IsOk c.in_err-join-in-Some.was (c.join.ensures.free within))))
+    absurd (true≢false (sym (subst IsOk c.in_err-join-in-Some.was (c.join.ensures.no_memory within))))
 
 pub invariant_of-self-then-is_some : goal.invariant_of-self-then-is_some
 invariant_of-self-then-is_some c =

@@ -35,7 +35,7 @@ add_path-requires c reserved =
 pub unreachable-requires : goal.unreachable-requires
 unreachable-requires c =
     let fits = first_fits c.args.match_id (trees_of c.loop-item.self) _ _ _ _ c.in-Some.item.now c.in-Some.id c.in-Some.ensures.steps.0 c.in-Some.ensures.steps.1.0 c.loop-item.invariant.fit in
-    true≢false (sym (subst IsOk c.in_default.is (c.add_path.ensures.free fits.0.1)))
+    true≢false (sym (subst IsOk c.in_default.is (c.add_path.ensures.no_memory fits.0.1)))
 
 pub loop-item-preserved : goal.loop-item-preserved
 loop-item-preserved c =

@@ -58,12 +58,12 @@ compile_node-returns-clause-laid t c =
     let second = c.compile_list-2.new.self.instructions.items in
     let there : address < length old = omega (arith, c.requires.room, c.requires.address) in
     let within : address < length second = omega (arith, there, a.same.count, b.same.count, ap length p.placed.is, length-set old address p.placed.instruction) in
-    let stays = placed_stays address start middle more old placed first second p.placed.instruction p.placed.is there (omega (arith, c.requires.address, p.free)) (omega (arith, a.free)) a.same b.same in
+    let stays = placed_stays address start middle more old placed first second p.placed.instruction p.placed.is there (omega (arith, c.requires.address, p.free_space)) (omega (arith, a.free_space)) a.same b.same in
     let kept = done.kept p.placed.instruction stays in
     subst (λ (m : Node). AreLaid c.set_jumps.new.self.instructions.items address free (link m none)) (sym (node_out c.args.node.now))
     (subst (λ (is : List code.Instruction). AreLaid is address free (link (shape x) none)) (sym done.is)
     (node_done (shape x) address free start middle more first second done.instruction
-    p.free (subst (λ (f : Forest). middle ≡ start + size f) children a.free) (subst (λ (f : Forest). more ≡ middle + size f) descendants b.free) c.requires.address within
+    p.free_space (subst (λ (f : Forest). middle ≡ start + size f) children a.free_space) (subst (λ (f : Forest). more ≡ middle + size f) descendants b.free_space) c.requires.address within
     (subst (λ (f : Forest). AreLaid first start (start + width f) f) children a.laid) (subst (λ (f : Forest). AreLaid second middle (middle + width f) f) descendants b.laid) b.same
     (subst (λ (q : CompiledPredicate). AreCompiledTests (tests_in q) (tests_of x.predicate)) (sym kept.0) p.placed.tests_are)
     (ap (λ (q : CompiledPredicate). map compiled_key_test (tests_in q)) kept.0 ∙ p.placed.keys_are)
@@ -85,22 +85,22 @@ compile_node-returns-clause-same t c =
     let old = c.args.self.now.instructions.items in
     let placed = c.place_node.new.self.instructions.items in
     let second = c.compile_list-2.new.self.instructions.items in
-    let before : address < start = omega (arith, c.requires.address, p.free) in
-    let same = node_same address start middle more placed c.compile_list.new.self.instructions.items second done.instruction before (omega (arith, a.free)) (omega (arith, b.free)) a.same b.same in
-    let all = placed_same address start more old placed (slice_set second address done.instruction) p.placed.instruction p.placed.is before (omega (arith, a.free, b.free)) same in
-    subst (λ low. SameElsewhere address low c.set_jumps.new.self.free_space_start old c.set_jumps.new.self.instructions.items) p.free
-    (subst (λ high. SameElsewhere address start high old c.set_jumps.new.self.instructions.items) (sym c.set_jumps.ensures.free)
+    let before : address < start = omega (arith, c.requires.address, p.free_space) in
+    let same = node_same address start middle more placed c.compile_list.new.self.instructions.items second done.instruction before (omega (arith, a.free_space)) (omega (arith, b.free_space)) a.same b.same in
+    let all = placed_same address start more old placed (slice_set second address done.instruction) p.placed.instruction p.placed.is before (omega (arith, a.free_space, b.free_space)) same in
+    subst (λ low. SameElsewhere address low c.set_jumps.new.self.free_space_start old c.set_jumps.new.self.instructions.items) p.free_space
+    (subst (λ high. SameElsewhere address start high old c.set_jumps.new.self.instructions.items) (sym c.set_jumps.ensures.free_space)
     (subst (λ (is : List code.Instruction). SameElsewhere address start more old is) (sym done.is) all))
 
-pub compile_node-returns-clause-free : goal.compile_node-returns-clause-free
-compile_node-returns-clause-free t c =
+pub compile_node-returns-clause-free_space : goal.compile_node-returns-clause-free_space
+compile_node-returns-clause-free_space t c =
     let a = c.in_ok-jumps.ensures in
     let b = c.in_ok-hereditary_jumps.ensures in
     let x = out-AstNode c.args.node.now in
     let children : forest_of c.deref_mut.result.now ≡ forest_of x.children.items = ap forest_of c.deref_mut.ensures.value ∙ children_kept _ in
     let descendants : forest_of c.deref_mut-2.result.now ≡ forest_of x.descendants.items = ap forest_of c.deref_mut-2.ensures.value ∙ (descendants_kept _ ∙ descendants_kept _) in
     subst (λ (m : Node). c.set_jumps.new.self.free_space_start ≡ c.args.self.now.free_space_start + (size m.children + size m.descendants)) (sym (node_out c.args.node.now))
-    (omega (arith, c.set_jumps.ensures.free, ap size descendants, b.free, ap size children, a.free, c.in_ok-place_node.ensures.free))
+    (omega (arith, c.set_jumps.ensures.free_space, ap size descendants, b.free_space, ap size children, a.free_space, c.in_ok-place_node.ensures.free_space))
 
 each_flag : (flag own children descendants : Bool) → (((flag || own) || children) || descendants) ≡ (flag || ((own || (children || descendants)) || false))
 each_flag true own children descendants = refl
@@ -161,7 +161,7 @@ compile_nodes-loop-node-preserved t c =
       as_before = drop-set-lt (i + 1) nodes i c.compile_node.new.node (omega arith) ∙ rest;
       by_type = flag_more flag c.compile_node.new.self.enable_nth_of_type own (any_by_type (forest_of left)) _ (done.by_type ∙ ap (λ (b : Bool). flag || b) (or-false own))
           (ap (λ (ns : List AstNode). flag || any_by_type (forest_of ns)) (sym here) ∙ c.loop-node.invariant.by_type);
-      half = half_step f start end old n (forest_of left) address free c.compile_node.new.self.free_space_start instructions next h done.same done.free done.laid;
+      half = half_step f start end old n (forest_of left) address free c.compile_node.new.self.free_space_start instructions next h done.same done.free_space done.laid;
     }
 
 pub compile_nodes-returns-clause-laid : goal.compile_nodes-returns-clause-laid

@@ -5,9 +5,9 @@ use Rattle.lol_program.specs.IdsForNodes.{Fits, IsReserved}
 use Rattle.lol_program.specs.declared.node_id.IdForNode.{IdForNode}
 use Rattle.lol_program.proofs.node_id.IdForNode.add_to.Goals as goal
 
-pub returns-in-Id-clause-free : goal.returns-in-Id-clause-free
-returns-in-Id-clause-free c fits =
-    c.insert.ensures.free (subst (λ (s : Ids). HasRoom s c.in-Id.id) (set_of-ascending c.args.ids.now) (subst (λ (x : IdForNode). Fits x (ascending c.args.ids.now)) c.in-Id.is fits))
+pub returns-in-Id-clause-no_memory : goal.returns-in-Id-clause-no_memory
+returns-in-Id-clause-no_memory c fits =
+    c.insert.ensures.no_memory (subst (λ (s : Ids). HasRoom s c.in-Id.id) (set_of-ascending c.args.ids.now) (subst (λ (x : IdForNode). Fits x (ascending c.args.ids.now)) c.in-Id.is fits))
 
 pub insert_reserved-requires : goal.insert_reserved-requires
 insert_reserved-requires c =

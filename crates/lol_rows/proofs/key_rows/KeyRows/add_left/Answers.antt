@@ -19,8 +19,8 @@ returns-then-is_ok-clause-left c = where_ok c.extend_from_slice.result _ (λ don
     c.extend_from_slice.ensures.items
     ∙ (ap (λ (b : Bool). if b then old ++ c.deref.result.now else old) done ∙ ap (λ (l : List ℕ). old ++ l) (c.deref.ensures.value ∙ found)))
 
-pub returns-then-is_ok-clause-free : goal.returns-then-is_ok-clause-free
-returns-then-is_ok-clause-free c = λ kind can room.
+pub returns-then-is_ok-clause-no_memory : goal.returns-then-is_ok-clause-no_memory
+returns-then-is_ok-clause-no_memory c = λ kind can room.
     let found = from_ok c.find_left.result _ c.find_left.ensures (sym c.if-is_ok.ensures.value) kind can (ap option_copied c.in-Some.is) in
     let many : length c.deref.result.now ≡ length (passing (leaves c.args.keys.now) c.args.instructions.now c.args.range.now) = ap length (c.deref.ensures.value ∙ found) in
     c.extend_from_slice.ensures.succeeds (omega (arith, room, many))

@@ -6,8 +6,8 @@ use Rattle.lol_rows.proofs.Left.{filter_before, next_added, range_at}
 use Rattle.lol_rows.proofs.tag_keys.TagKeys.add_left.Goals as goal
 use Rattle.lol_rows.proofs.tag_keys.TagKeys.add_left.Goals.{then-leave+in-Ok+in_ok-push, else-leave}
 
-pub returns-in_err-push-clause-free : goal.returns-in_err-push-clause-free
-returns-in_err-push-clause-free c = λ few room.
+pub returns-in_err-push-clause-no_memory : goal.returns-in_err-push-clause-no_memory
+returns-in_err-push-clause-no_memory c = λ few room.
     let q = passes_at (leaves c.args.self.now) c.args.instructions.now in
     let all = addresses c.args.range.now in
     let index = c.loop-address.address - c.args.range.now.start in

@@ -23,9 +23,9 @@ returns-in_err-complete_instructions-clause-within g c = λ is_stop runnable.
       attributes = omega (arith, told.attributes_bound, opens_split all {r = rest_of ranges stop} {others = drop (stop.range + 1) ranges} refl part is s s refl);
     }
 
-pub returns-in_err-complete_instructions-clause-free : goal.returns-in_err-complete_instructions-clause-free
-returns-in_err-complete_instructions-clause-free g c = λ free.
-    absurd (err_is_not_ok c.complete_instructions.result c.in_err-complete_instructions.field-0.0 c.in_err-complete_instructions.was (c.complete_instructions.ensures.free (c.instructions_in-part.ensures.free c.args.ctx.now.with_content free)))
+pub returns-in_err-complete_instructions-clause-no_memory : goal.returns-in_err-complete_instructions-clause-no_memory
+returns-in_err-complete_instructions-clause-no_memory g c = λ free.
+    absurd (err_is_not_ok c.complete_instructions.result c.in_err-complete_instructions.field-0.0 c.in_err-complete_instructions.was (c.complete_instructions.ensures.no_memory (c.instructions_in-part.ensures.no_memory c.args.ctx.now.with_content free)))
 
 -- 2. The ranges after it were run
 

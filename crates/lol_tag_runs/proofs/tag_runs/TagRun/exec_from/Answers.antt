@@ -47,7 +47,7 @@ returns-in_err-exec_instructions-clause-within g c = λ runnable.
       attributes = omega (arith, told.attributes_bound, so_far.attributes runnable, opens_split all first part is _ _ (ap (sight c.args.self.now.state) so_far.name));
     }
 
-pub returns-in_err-exec_instructions-clause-free : goal.returns-in_err-exec_instructions-clause-free
-returns-in_err-exec_instructions-clause-free g c = λ free.
-    let ok = c.exec_instructions.ensures.free (subst (λ b. NeedNoMemory b c.instructions_in-part.result.now) (sym c.loop-index.invariant.content) (c.instructions_in-part.ensures.free c.args.ctx.now.with_content free)) in
+pub returns-in_err-exec_instructions-clause-no_memory : goal.returns-in_err-exec_instructions-clause-no_memory
+returns-in_err-exec_instructions-clause-no_memory g c = λ free.
+    let ok = c.exec_instructions.ensures.no_memory (subst (λ b. NeedNoMemory b c.instructions_in-part.result.now) (sym c.loop-index.invariant.content) (c.instructions_in-part.ensures.no_memory c.args.ctx.now.with_content free)) in
     absurd (err_is_not_ok c.exec_instructions.result c.in_err-exec_instructions.field-0.0 c.in_err-exec_instructions.was ok)

@@ -80,7 +80,7 @@ returns-in_err-offset-clause-within g c = λ runnable.
     tried_within c.args.self.now.instructions.now (g.R.TagRanges.listed c.args.self.now.ranges) c.loop-index.index c.range.result (subst (λ n. c.loop-index.index < n) c.len-index-end.ensures c.loop-index-test.true) c.range.ensures
     (so_far.runs runnable) c.instructions_in-part.result.now c.instructions_in-part.ensures.value _ c.args.tries.now _ (so_far.names runnable) so_far.attributes told.names_bound told.attributes
 
-pub returns-in_err-offset-clause-free : goal.returns-in_err-offset-clause-free
-returns-in_err-offset-clause-free g c = λ free.
-    let ok = c.try_instructions.ensures.free (subst (λ b. NeedNoMemory b c.instructions_in-part.result.now) (sym c.loop-index.invariant.content) (c.instructions_in-part.ensures.free c.args.ctx.now.with_content free)) in
+pub returns-in_err-offset-clause-no_memory : goal.returns-in_err-offset-clause-no_memory
+returns-in_err-offset-clause-no_memory g c = λ free.
+    let ok = c.try_instructions.ensures.no_memory (subst (λ b. NeedNoMemory b c.instructions_in-part.result.now) (sym c.loop-index.invariant.content) (c.instructions_in-part.ensures.no_memory c.args.ctx.now.with_content free)) in
     absurd (err_is_not_ok c.try_instructions.result c.in_err-offset.field-0.0 c.in_err-offset.was ok)

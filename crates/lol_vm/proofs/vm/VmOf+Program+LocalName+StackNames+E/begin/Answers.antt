@@ -19,7 +19,7 @@ returns-then-self g c = record {
   full = (λ is. cc, λ full. cc);
   refused = c.if-self.true;
   unlimited = λ limit. cc;
-  free = λ s esi events tag stands named takes. cc;
+  no_memory = λ s esi events tag stands named takes. cc;
   tried = λ s esi events tag stands named. cc;
 }
 
@@ -39,8 +39,8 @@ returns-in-Err g c =
       );
       refused = refl;
       unlimited = λ limit. isnt.1 cc;
-      free = λ s esi events tag stands named takes.
-          let full = c.in-Err.ensures.free (has_none_typed s stands.paths c.args.self.now (document s esi events) (longest s esi events) stands.standing (small_if s tag takes)) in
+      no_memory = λ s esi events tag stands named takes.
+          let full = c.in-Err.ensures.no_memory (has_none_typed s stands.paths c.args.self.now (document s esi events) (longest s esi events) stands.standing (small_if s tag takes)) in
           let child : c.in-Err.error ≡ CounterFull = cc in
           c.from.ensures ∙ ap refused_child child;
       tried = λ s esi events tag stands named. none_tried s esi events tag c.new-self.result c.new-self.result refl c.new-self.ensures.names c.new-self.ensures.attributes;
@@ -63,7 +63,7 @@ returns-in-Err-try_start g c =
       full = (λ is. cc, λ full. absurd (omega (arith, counted.room, full.1)));
       refused = ap (λ (v : Vm _). v.failed) is;
       unlimited = λ limit. cc;
-      free = λ s esi events tag stands named takes.
+      no_memory = λ s esi events tag stands named takes.
           let ok = never_refused trial s esi events tag stands named (free_if s stands.paths c.args.self.now (document s esi events) (longest s esi events) stands.standing esi tag takes) in
           absurd (err_is_not_ok c.try_start.result c.in-Err-try_start.field-0 c.in-Err-try_start.is ok);
       tried = λ s esi events tag stands named. most_tried trial s esi events tag stands named;
@@ -97,6 +97,6 @@ returns-in-Ok g c =
       full = (λ is. cc, λ full. absurd (omega (arith, counted.room, full.1)));
       refused = tt;
       unlimited = λ limit. cc;
-      free = tt;
+      no_memory = tt;
       tried = λ s esi events tag stands named. most_tried trial s esi events tag stands named;
     }

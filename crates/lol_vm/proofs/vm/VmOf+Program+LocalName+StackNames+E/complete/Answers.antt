@@ -34,5 +34,5 @@ returns-clause-completed g c =
           inr (of_same (λ all ranges s. IsPointIn all ranges point → AreRunnable all (ranges_left ranges point) before
           → AreWithin s all (ranges_left ranges point) before after (tried_at point))
           c.new-run.ensures.instructions (runs g c) c.new-run.ensures.sight c.complete.ensures.within there runnable);
-      free = λ rows room free. c.complete.ensures.free (subst (NeedNoMemory c.args.ctx.now.with_content) (sym c.new-run.ensures.instructions) free);
+      no_memory = λ rows room free. c.complete.ensures.no_memory (subst (NeedNoMemory c.args.ctx.now.with_content) (sym c.new-run.ensures.instructions) free);
     }

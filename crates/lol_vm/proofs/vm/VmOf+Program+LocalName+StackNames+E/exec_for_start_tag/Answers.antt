@@ -34,13 +34,13 @@ returns-in-Err g c =
       refused = λ e is refusal. c.in-Err.ensures.refused;
       silent = λ e is silent. refl;
       limited = λ limit. absurd (c.begin.ensures.unlimited (c.in-Err.is ∙ ap Err (refused_as error c.from.result from refusals.MemoryLimitExceeded (error_is limit))));
-      free = λ e is s esi events tag stands named takes.
-          let full = c.in-Err.ensures.free s esi events tag stands (named_so c.new-ctx.ensures.item c.new-ctx.ensures.ns tag named) (inl takes) in
+      no_memory = λ e is s esi events tag stands named takes.
+          let full = c.in-Err.ensures.no_memory s esi events tag stands (named_so c.new-ctx.ensures.item c.new-ctx.ensures.ns tag named) (inl takes) in
           let same : c.from.result ≡ e = error_is is in
           subst IsAskedOrFull same (refused_full_only error c.from.result from full);
       tried = λ s esi events tag stands named. c.begin.ensures.tried s esi events tag stands (named_so c.new-ctx.ensures.item c.new-ctx.ensures.ns tag named);
       due = λ e is due s esi events tag stands named runs.
-          let full = c.in-Err.ensures.free s esi events tag stands (named_so c.new-ctx.ensures.item c.new-ctx.ensures.ns tag named) (inr runs.flat) in
+          let full = c.in-Err.ensures.no_memory s esi events tag stands (named_so c.new-ctx.ensures.item c.new-ctx.ensures.ns tag named) (inr runs.flat) in
           let same : c.from.result ≡ e = error_is is in
           not_for_memory e (subst IsAskedOrFull same (refused_full_only error c.from.result from full));
       all_or_none = λ e is. inl refl;
@@ -67,17 +67,17 @@ returns-in-Some g c =
       refused = requested_refused _ _ _ c.request.new.self result requested;
       silent = λ e is silent. refl;
       limited = λ limit. absurd (requested_as _ _ _ c.request.new.self result _ requested limit);
-      free = λ e is s esi events tag stands named takes.
+      no_memory = λ e is s esi events tag stands named takes.
           let name : c.begin.new.ctx.stack_item.local_name ≡ local_name tag.name = c.begin.ensures.name ∙ (c.new-ctx.ensures.item.name ∙ named.0) in
           asked_only _ _ c.begin.new.self c.request.new.self result e requested
-          (c.request.ensures.free (subst (λ (n : Name). IsNone n.spelling) (sym name) (void_unspelled tag.name takes.2))) (begun_unfailed b s esi events tag stands named) is;
+          (c.request.ensures.no_memory (subst (λ (n : Name). IsNone n.spelling) (sym name) (void_unspelled tag.name takes.2))) (begun_unfailed b s esi events tag stands named) is;
       tried = λ s esi events tag stands named. subst (IsTriedAtMost s esi events tag) (sym c.request.ensures.tries) (c.begin.ensures.tried s esi events tag stands (named_so c.new-ctx.ensures.item c.new-ctx.ensures.ns tag named));
       due = λ e is due s esi events tag stands named runs.
           let pending = begun_pending b s esi events tag stands named c.in-Some.point c.in-Some.is in
           let name : c.begin.new.ctx.stack_item.local_name ≡ local_name tag.name = c.begin.ensures.name ∙ (c.new-ctx.ensures.item.name ∙ named.0) in
           not_for_memory e
           (asked_only _ _ c.begin.new.self c.request.new.self result e requested
-          (c.request.ensures.free (subst (λ (n : Name). IsNone n.spelling) (sym name) (runs.named pending.asks))) (begun_unfailed b s esi events tag stands named) is);
+          (c.request.ensures.no_memory (subst (λ (n : Name). IsNone n.spelling) (sym name) (runs.named pending.asks))) (begun_unfailed b s esi events tag stands named) is);
       all_or_none = λ e is. inl refl;
     }
 
@@ -100,7 +100,7 @@ returns-in-Ok-answer g c =
       refused = λ e is refusal. cc;
       silent = λ e is silent. cc;
       limited = λ limit. cc;
-      free = λ e is s esi events tag stands named takes. cc;
+      no_memory = λ e is s esi events tag stands named takes. cc;
       tried = λ s esi events tag stands named. subst (IsTriedAtMost s esi events tag) (sym c.answer.ensures.tries) (c.begin.ensures.tried s esi events tag stands (named_so c.new-ctx.ensures.item c.new-ctx.ensures.ns tag named));
       due = λ e is due s esi events tag stands named runs. cc;
       all_or_none = λ e is. cc;
@@ -136,7 +136,7 @@ returns-in-Err-answer g c =
                 let all = begun_complete b s esi events tag stands named c.in_default.is in
                 (sym all.content ∙ opens.0, reported all c.in-Err-answer.ensures.reported _ c.answer.ensures.tries),
           );
-      free = λ e is s esi events tag stands named takes. absurd (never ((begun_complete b s esi events tag stands named c.in_default.is).content ∙ void_is_closed esi tag takes.1 takes.2));
+      no_memory = λ e is s esi events tag stands named takes. absurd (never ((begun_complete b s esi events tag stands named c.in_default.is).content ∙ void_is_closed esi tag takes.1 takes.2));
       tried = λ s esi events tag stands named. subst (IsTriedAtMost s esi events tag) (sym c.answer.ensures.tries) (c.begin.ensures.tried s esi events tag stands (named_so c.new-ctx.ensures.item c.new-ctx.ensures.ns tag named));
       due = λ e is due s esi events tag stands named runs. limit e (sym (error_is is)) due;
       all_or_none = λ e is. inr (

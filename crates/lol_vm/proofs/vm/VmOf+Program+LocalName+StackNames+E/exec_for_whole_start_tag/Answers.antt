@@ -31,9 +31,9 @@ returns-in-Err g c =
       refused = c.in-Err.ensures.refused;
       silent = λ is. refl;
       limited = λ limit. absurd (c.begin.ensures.unlimited (c.in-Err.is ∙ ap Err (error_is limit)));
-      free = λ s esi events tag stands named takes. c.in-Err.ensures.free s esi events tag stands (named_so c.new-ctx.ensures.item c.new-ctx.ensures.ns tag named) (inl takes);
+      no_memory = λ s esi events tag stands named takes. c.in-Err.ensures.no_memory s esi events tag stands (named_so c.new-ctx.ensures.item c.new-ctx.ensures.ns tag named) (inl takes);
       tried = λ s esi events tag stands named rest. c.begin.ensures.tried s esi events tag stands (named_so c.new-ctx.ensures.item c.new-ctx.ensures.ns tag named);
-      due = λ due s esi events tag stands named flat memory. let full = c.in-Err.ensures.free s esi events tag stands (named_so c.new-ctx.ensures.item c.new-ctx.ensures.ns tag named) (inr flat) in cc;
+      due = λ due s esi events tag stands named flat memory. let full = c.in-Err.ensures.no_memory s esi events tag stands (named_so c.new-ctx.ensures.item c.new-ctx.ensures.ns tag named) (inr flat) in cc;
       all_or_none = λ is. inl refl;
     }
 
@@ -57,7 +57,7 @@ returns-in-Ok-finish g c =
       refused = tt;
       silent = λ is. elim is [ inl full ↦ cc | inr failed ↦ cc ];
       limited = λ limit. cc;
-      free = tt;
+      no_memory = tt;
       tried = λ s esi events tag stands named. c.finish.ensures.tried s esi events tag (begun_pending b s esi events tag stands named c.in-Some.point c.in-Some.is);
       due = tt;
       all_or_none = λ is. cc;
@@ -85,7 +85,7 @@ returns-in-Err-finish g c =
                 let told = due.1 s esi events tag (begun_pending b s esi events tag stands named c.in-Some.point c.in-Some.is) rest in
                 (told.0, reported_if told.1),
           );
-      free = λ s esi events tag stands named takes. absurd (err_is_not_ok c.finish.result pushed c.in-Err-finish.is (c.finish.ensures.free s esi events tag (begun_pending b s esi events tag stands named c.in-Some.point c.in-Some.is) takes));
+      no_memory = λ s esi events tag stands named takes. absurd (err_is_not_ok c.finish.result pushed c.in-Err-finish.is (c.finish.ensures.no_memory s esi events tag (begun_pending b s esi events tag stands named c.in-Some.point c.in-Some.is) takes));
       tried = λ s esi events tag stands named. c.finish.ensures.tried s esi events tag (begun_pending b s esi events tag stands named c.in-Some.point c.in-Some.is);
       due = λ due s esi events tag stands named flat memory.
           c.finish.ensures.due _ (c.in-Err-finish.is ∙ ap Err (refused_push_is pushed (pushes.Memory (record {})) c.from.result c.from.ensures memory)) ((begun_due b c.args.limiter.now).0 due) s esi events tag
@@ -115,7 +115,7 @@ returns-in-Ok-answer g c =
       refused = tt;
       silent = λ is. elim is [ inl full ↦ cc | inr failed ↦ cc ];
       limited = λ limit. cc;
-      free = tt;
+      no_memory = tt;
       tried = λ s esi events tag stands named rest. subst (IsTriedAtMost s esi events tag) (sym c.answer.ensures.tries) (c.begin.ensures.tried s esi events tag stands (named_so c.new-ctx.ensures.item c.new-ctx.ensures.ns tag named));
       due = tt;
       all_or_none = λ is. cc;
@@ -150,7 +150,7 @@ returns-in-Err-answer g c =
                 let all = begun_complete b s esi events tag stands named c.in_default.is in
                 (sym all.content ∙ opens.0, reported_if (reported all c.in-Err-answer.ensures.reported _ c.answer.ensures.tries)),
           );
-      free = λ s esi events tag stands named takes. absurd (never ((begun_complete b s esi events tag stands named c.in_default.is).content ∙ void_is_closed esi tag takes.1 takes.2));
+      no_memory = λ s esi events tag stands named takes. absurd (never ((begun_complete b s esi events tag stands named c.in_default.is).content ∙ void_is_closed esi tag takes.1 takes.2));
       tried = λ s esi events tag stands named rest. subst (IsTriedAtMost s esi events tag) (sym c.answer.ensures.tries) (c.begin.ensures.tried s esi events tag stands (named_so c.new-ctx.ensures.item c.new-ctx.ensures.ns tag named));
       due = λ due s esi events tag stands named flat memory. room memory due;
       all_or_none = λ is. inr (

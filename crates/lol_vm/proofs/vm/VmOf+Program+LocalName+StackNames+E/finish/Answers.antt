@@ -52,13 +52,13 @@ module _ (g : given.Over) (c : After-complete g) (s : Selectors) (esi : Bool) (e
 
   -- it is run without memory where its instructions need none
   run_free : NeedNoMemory c.content_in.result vm.program.instructions.items → IsOk c.complete.result
-  run_free = c.complete.ensures.completed.free pending.stands.sparing.rows (has_room g.E.ElementData.ids vm s esi events tag (left_at c.args.ctx c.args.point) pending)
+  run_free = c.complete.ensures.completed.no_memory pending.stands.sparing.rows (has_room g.E.ElementData.ids vm s esi events tag (left_at c.args.ctx c.args.point) pending)
 
 -- 2. It was refused
 
-pub returns-in-Err-clause-free : goal.returns-in-Err-clause-free
-returns-in-Err-clause-free g c = λ s esi events tag pending takes.
-    let a = (goal.at.returns-in-Err-clause-free g c).After-complete in
+pub returns-in-Err-clause-no_memory : goal.returns-in-Err-clause-no_memory
+returns-in-Err-clause-no_memory g c = λ s esi events tag pending takes.
+    let a = (goal.at.returns-in-Err-clause-no_memory g c).After-complete in
     let vm = c.args.self.now in
     let closed = finished_closed c.args.point (has_content esi tag) c.args.ctx.with_content c.args.aux_info.self_closing pending.context tag.namespace c.args.ctx.ns pending.goes_on takes.1 (sym pending.named.1) (void_is_closed esi tag takes.1 takes.2) in
     let free = is_closed_free s pending.stands.paths vm _ _ pending.stands.standing takes.0 c.content_in.result (c.content_in.ensures ∙ closed) in
@@ -137,8 +137,8 @@ returns-clause-limited g c = λ limit.
       λ s esi events tag pending rest. let all = told g c s esi events tag pending rest in (sym all.content ∙ opens.0, reported all c.answer.ensures.reported _ c.answer.ensures.tries),
     )
 
-pub returns-clause-free : goal.returns-clause-free
-returns-clause-free g c = λ s esi events tag pending takes.
+pub returns-clause-no_memory : goal.returns-clause-no_memory
+returns-clause-no_memory g c = λ s esi events tag pending takes.
     let closed = finished_closed c.args.point (has_content esi tag) c.args.ctx.with_content c.args.aux_info.self_closing pending.context tag.namespace c.args.ctx.ns pending.goes_on takes.1 (sym pending.named.1) (void_is_closed esi tag takes.1 takes.2) in
     c.answer.ensures.closed (c.complete.ensures.content ∙ (c.content_in.ensures ∙ closed))
 

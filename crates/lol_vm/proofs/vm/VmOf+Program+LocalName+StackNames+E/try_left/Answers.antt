@@ -64,7 +64,7 @@ returns-in-Ok-Some-clause-tried g c = λ own_rows.
       attributes = c.try_by_name.ensures.attributes;
       within = λ rows closed. within g a own_rows rows;
       untried = λ rows now. never g a rows now;
-      free = λ rows room free. refl;
+      no_memory = λ rows room free. refl;
     }
 
 pub returns-in-Ok-None-clause-tried : goal.returns-in-Ok-None-clause-tried
@@ -76,7 +76,7 @@ returns-in-Ok-None-clause-tried g c = λ own_rows.
       attributes = c.try_by_name.ensures.attributes;
       within = λ rows closed. within g a own_rows rows;
       untried = λ rows now. never g a rows now;
-      free = λ rows room free. refl;
+      no_memory = λ rows room free. refl;
     }
 
 pub returns-in-Err-try_by_name-clause-tried : goal.returns-in-Err-try_by_name-clause-tried
@@ -88,9 +88,9 @@ returns-in-Err-try_by_name-clause-tried g c = λ own_rows.
       attributes = c.try_by_name.ensures.attributes;
       within = λ rows closed. within g a own_rows rows;
       untried = λ rows now. never g a rows now;
-      free = λ rows room free.
+      no_memory = λ rows room free.
           absurd (err_is_not_ok c.try_by_name.result c.in-Err-try_by_name.error c.in-Err-try_by_name.is
-          (c.try_by_name.ensures.free (subst (NeedNoMemory c.args.ctx.now.with_content) (sym c.left-run.ensures.instructions) free)));
+          (c.try_by_name.ensures.no_memory (subst (NeedNoMemory c.args.ctx.now.with_content) (sym c.left-run.ensures.instructions) free)));
     }
 
 pub returns-in-Ok-true-clause-tried : goal.returns-in-Ok-true-clause-tried

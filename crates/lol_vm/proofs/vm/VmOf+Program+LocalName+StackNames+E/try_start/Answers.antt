@@ -35,7 +35,7 @@ rows_tried : (g : given.Over) (c : After-try_left g) (tag : StartTag) → (is_ht
 rows_tried g c tag page found is =
     let told = c.try_left.ensures.tried (sym c.is_some.ensures ∙ c.if-is_some.true) in
     tried_by_name g.E.ElementData.ids g.E.ElementData.with_ids c.args.self.now _ c.args.ctx.now c.try_left.new.ctx (stopped_by c.try_left.result c.try_left.new.self.space) found tag c.eq-ctx.result page.0 page.1 is
-    (record { size = told.size; tried = told.tried; attributes = told.attributes; within = told.within; untried = told.untried; free = told.free })
+    (record { size = told.size; tried = told.tried; attributes = told.attributes; within = told.within; untried = told.untried; no_memory = told.no_memory })
 
 pub returns-in-Ok-clause-tried : goal.returns-in-Ok-clause-tried
 returns-in-Ok-clause-tried g c = λ tag named.
@@ -106,7 +106,7 @@ returns-in-Ok-Some-clause-tried g c = λ tag named.
       attributes = c.try_by_name.ensures.attributes;
       within = λ rows closed. within g a;
       untried = λ rows now. never g a now;
-      free = λ rows room free. refl;
+      no_memory = λ rows room free. refl;
     })
 
 pub returns-in-Ok-None-clause-tried : goal.returns-in-Ok-None-clause-tried
@@ -120,7 +120,7 @@ returns-in-Ok-None-clause-tried g c = λ tag named.
       attributes = c.try_by_name.ensures.attributes;
       within = λ rows closed. within g a;
       untried = λ rows now. never g a now;
-      free = λ rows room free. refl;
+      no_memory = λ rows room free. refl;
     })
 
 pub returns-in-Err-try_by_name-clause-tried : goal.returns-in-Err-try_by_name-clause-tried
@@ -134,7 +134,7 @@ returns-in-Err-try_by_name-clause-tried g c = λ tag named.
       attributes = c.try_by_name.ensures.attributes;
       within = λ rows closed. within g a;
       untried = λ rows now. never g a now;
-      free = λ rows room free.
+      no_memory = λ rows room free.
           absurd (err_is_not_ok c.try_by_name.result c.in-Err-try_by_name.error c.in-Err-try_by_name.is
-          (c.try_by_name.ensures.free (subst (NeedNoMemory c.eq-ctx.result) (sym c.new-run.ensures.instructions) free)));
+          (c.try_by_name.ensures.no_memory (subst (NeedNoMemory c.eq-ctx.result) (sym c.new-run.ensures.instructions) free)));
     })
