@@ -70,7 +70,7 @@ def cases(table: Path = TABLE) -> list[Case]:
 
 
 def limit_of(max_memory: int, element_bytes: int) -> int:
-    """The limit of a script, whose elements are charged 64 bytes, under which as many elements have room (HOSTILE.md, "A limit")."""
+    """The limit of a script, whose elements are charged 64 bytes, under which as many elements have room (TESTED.md, "A limit")."""
     charged = max(element_bytes, 1)
     slots = max(8, 128 // charged)
     if slots * charged > max_memory:

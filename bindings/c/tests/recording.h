@@ -117,7 +117,7 @@ static void run_as(const buffer *script, uint32_t status, const buffer *wanted) 
 }
 
 /* The limit of a script, whose elements are charged 64 bytes, under which as many have room: 8 (or 128 bytes) at first, then twice as many
-   each time that it is full (docs/HOSTILE.md, "A limit"). */
+   each time that it is full (docs/TESTED.md, "A limit"). */
 static size_t limit_of(size_t max_memory, size_t element_bytes) {
     size_t charged = element_bytes > 0 ? element_bytes : 1;
     size_t fits = max_memory / charged, slots = charged < 16 ? 128 / charged : 8;

@@ -13,21 +13,22 @@ use Rattle.lol_vm.specs.FreeTags.{AreFlat, RunsWithoutMemory}
 use Rattle.lol_vm.specs.Refusals.{Allowance, Cause}
 use Rattle.lol_vm.specs.Views.{selectors}
 use Rattle.lol_vm.specs.Vms.{is_asked_for}
-use Rattle.lol_matcher.specs.Answering.{Answers, GrowsBy, IfWaits, IsAnsweredAfter, IsFinishedAs, IsReported, KeepsOne, LeavesOpen, OpensFor, OpensStart, with_told}
-use Rattle.lol_matcher.specs.Noted.{handed, handed_told}
+use Rattle.lol_matcher.specs.Answering.{Answers, IfWaits, IsAnsweredAfter, IsFinishedAs, IsReported, KeepsOne, OpensFor, OpensStart, refused_with}
+use Rattle.lol_matcher.specs.Explaining.{reasons_told, report_under}
+use Rattle.lol_matcher.specs.Last.{last_or}
+use Rattle.lol_matcher.specs.Noted.{handed}
 use Rattle.lol_matcher.specs.Refusing.{Fits, IsRefusedFor, RefusesFinish, RefusesStart, RefusesStartWith, allowance, refusal_of}
-use Rattle.lol_matcher.specs.Told.{Matching, Told, elements_of, heard}
+use Rattle.lol_matcher.specs.Told.{Matching, Told, elements_of, heard, in_word}
 use Rattle.lol_matcher.specs.declared.error.MatcherError.{MatcherError}
 use Rattle.lol_matcher.specs.declared.error.MatcherError.TheVariants.{MemoryLimitExceeded, Memory, CounterFull, Failed, NotAsked, OutsideInput}
 use Rattle.lol_matcher.specs.declared.matcher.Started.TheVariants.{Reported, NeedsAttributes}
 use Rattle.lol_reasons.specs.Explanations.{Added, Text, added_by}
 use Rattle.lol_reasons.specs.Numbered.{items_of, numbered_from}
 use Rattle.lol_reasons.specs.declared.explainer.Explainer.{Explainer}
-use Rattle.lol_explaining_matcher.specs.Explaining.{Explains, reasons_told, report_under}
-use Rattle.lol_explaining_matcher.specs.Notes.{Noting}
-use Rattle.lol_explaining_matcher.specs.Plain.{FinishesPlainly, IsAnsweredBy, IsHandedPlainly, RefusesPlainly, RefusesStartPlainly, StartsPlainly, TextsAreFlat, TextsRunWithoutMemory, last_or, plain_reasons, plain_selectors, refusal_by}
+use Rattle.lol_explaining_matcher.specs.Explaining.{Explains, GrowsBy, LeavesOpen, SameOpen}
+use Rattle.lol_explaining_matcher.specs.Plain.{FinishesPlainly, IsAnsweredBy, IsHandedPlainly, RefusesPlainly, RefusesStartPlainly, StartsPlainly, TextsAreFlat, TextsRunWithoutMemory, plain_reasons, plain_selectors, refusal_by}
 use Rattle.lol_explaining_matcher.specs.PlainLaws.{LawsHold}
-use Rattle.lol_explaining_matcher.proofs.Plainly.{reported_plainly, same_asked, same_explanations, same_refusal, same_told}
+use Rattle.lol_explaining_matcher.proofs.Plainly.{reported_plainly, same_asked, same_explanations, same_refusal}
 
 -- 1. Refusals
 
@@ -63,17 +64,32 @@ if_some None f h = h
 pub if_err : {A E : Type 0} (P : E → Type 0) (r : Result A E) (e : E) → r ≡ Err e → P e → IfErr r P
 if_err {A} {E} P r e is h = subst (λ (r : Result A E). IfErr r P) (sym is) h
 
--- where memory was refused for the list of a report, the tag's element is open
-pub leaves_unreported : {T : Type 0} (told : Told) (tag : StartTag) (old new : Matching T) → new.open_elements ≡ elements_of told → OpensFor tag old new → LeavesOpen Memory told tag old new
-leaves_unreported told tag old new open_elements opens = inr (record { open_elements = open_elements; kept = grows (has_content old.told.esi tag) opens.kept })
+-- what the matcher refuses leaves open what was
+pub leaves_refused : {T : Type 0} (error : MatcherError) (told : Told) (tag : StartTag) (old new : Matching T) → new ≡ refused_with old new → LeavesOpen error told tag old new
+leaves_refused {T} error told tag old new is = by_error error
   where
-    grows : (content : Bool) → KeepsOne content new.matched old.kept new.kept → GrowsBy content old.kept new.kept
+    same : SameOpen old new
+    same = record { open_elements = ap (λ (m : Matching T). m.open_elements) is; kept = ap (λ (m : Matching T). m.kept) is }
+
+    by_error : (error : MatcherError) → LeavesOpen error told tag old new
+    by_error MemoryLimitExceeded = same
+    by_error CounterFull = same
+    by_error Memory = inl same
+    by_error Failed = same
+    by_error NotAsked = same
+    by_error OutsideInput = same
+
+-- where memory was refused for the list of a report, the tag's element is open
+pub leaves_unreported : {T : Type 0} (told : Told) (before : List Event) (tag : StartTag) (old new : Matching T) → new.open_elements ≡ elements_of told → OpensFor before tag old new → LeavesOpen Memory told tag old new
+leaves_unreported told before tag old new open_elements opens = inr (record { open_elements = open_elements; kept = grows (has_content old.told.esi tag) opens.kept })
+  where
+    grows : (content : Bool) → KeepsOne content (in_word (length before)) new.matched old.kept new.kept → GrowsBy content old.kept new.kept
     grows false kept = kept
     grows true kept = (kept.0, kept.1)
 
 -- 2. What a matcher shows of the texts' selectors
 
-module _ {T : Type 0} (laws : LawsHold) (texts : List Text) (explainer : Explainer) (notes : Noting) (old : Matching T) (was : Explains texts explainer notes old) where
+module _ {T : Type 0} (laws : LawsHold) (texts : List Text) (explainer : Explainer) (failed : Bool) (old : Matching T) (before_it : List MatchInfo) (was : Explains texts explainer old failed before_it) where
   abbrev t : Told
   t = old.told
 
@@ -141,16 +157,14 @@ module _ {T : Type 0} (laws : LawsHold) (texts : List Text) (explainer : Explain
           → StartsPlainly Reported texts old name ns matched new.tries
       starts name ns answers opens fits = λ tag named spaced. plain_answer (heard t) tag false (answers tag named spaced) (opens tag named spaced).opened (fits tag named spaced)
 
-      pub finishes : (aux : AuxStartTagInfo) → IfWaits t aux (λ tag. IsFinishedAs t tag new) → IfWaits t aux (λ tag. OpensFor tag old new) → IfWaits t aux (λ tag. refusal_of old t.events tag ≡ None)
+      pub finishes : (aux : AuxStartTagInfo) → IfWaits t aux (λ tag. IsFinishedAs t tag new) → IfWaits t aux (λ tag. OpensFor t.events tag old new) → IfWaits t aux (λ tag. refusal_of old t.events tag ≡ None)
           → IfWaits t aux (λ tag. FinishesPlainly texts old tag matched new.tries)
       finishes aux is opens fits = if_all t.asked (λ asked is opens fits. plain_answer t.events (handed asked.0 asked.1 aux) true is opens.opened fits) is opens fits
 
-      pub hands : (tag : StartTag) → IsAnsweredAfter t tag new → OpensFor tag old new → refusal_of old (heard t) tag ≡ None → new ≡ with_told (handed_told t tag) old new → IsHandedPlainly texts old new tag matched
-      hands tag is opens fits as_told = record {
-        answered = subst (λ (asked : Bool). IsAnsweredBy p old (heard t) tag asked matched new.tries) (sym (same_asked laws texts n was.nodes t.esi (heard t) tag))
-            (plain_answer (heard t) tag (is_asked_for n t.esi (heard t) tag) is opens.opened fits);
-        told = ap (λ (m : Matching T). heard m.told) as_told ∙ ap (λ (event : Event). heard t ++ event ∷ []) (sym (same_told laws texts n was.nodes t.esi (heard t) tag));
-      }
+      pub hands : (tag : StartTag) → IsAnsweredAfter t tag new → OpensFor (heard t) tag old new → refusal_of old (heard t) tag ≡ None → IsHandedPlainly texts old tag matched new.tries
+      hands tag is opens fits =
+          subst (λ (asked : Bool). IsAnsweredBy p old (heard t) tag asked matched new.tries) (sym (same_asked laws texts n was.nodes t.esi (heard t) tag))
+          (plain_answer (heard t) tag (is_asked_for n t.esi (heard t) tag) is opens.opened fits)
 
     pub asks : (name : List ℕ) (ns : Namespace) → matched ≡ [] → Answers NeedsAttributes t name ns new.matched new.tries → Fits NeedsAttributes old name ns
         → StartsPlainly NeedsAttributes texts old name ns matched new.tries

@@ -1,4 +1,3 @@
 mod Going
-mod Collected
 mod Plainly
 mod Calls

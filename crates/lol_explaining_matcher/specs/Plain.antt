@@ -17,8 +17,8 @@ use Rattle.lol_vm.specs.Events.{Event, Start, End, has_content}
 use Rattle.lol_vm.specs.Refusals.{Cause}
 use Rattle.lol_vm.specs.Views.{match_of}
 use Rattle.lol_vm.specs.Vms.{is_asked_for}
-use Rattle.lol_laws.specs.AskedRuns.{told_of}
 use Rattle.lol_matcher.specs.Answering.{IsReported}
+use Rattle.lol_matcher.specs.Last.{IsLast, last_or}
 use Rattle.lol_matcher.specs.Refusing.{IsRefusedFor, allowance, refusal_after}
 use Rattle.lol_matcher.specs.Told.{Matching, Told, heard}
 use Rattle.lol_matcher.specs.declared.error.MatcherError.{MatcherError}
@@ -72,15 +72,10 @@ StartsPlainly NeedsAttributes texts old name ns matched tries =
 abbrev pub FinishesPlainly : {T : Type 0} → List Text → Matching T → StartTag → List MatchInfo → Tries → Type 0
 FinishesPlainly texts old tag matched tries = IsAnsweredBy (plain_selectors texts) old old.told.events tag true matched tries
 
--- A start tag whose attributes are at hand is answered so, and of its attributes is told where they are asked for.
-pub record IsHandedPlainly {T : Type 0} (texts : List Text) (old new : Matching T) (tag : StartTag) (matched : List MatchInfo) : Type 0 where
-  pub answered :
-      IsAnsweredBy (plain_selectors texts) old (heard old.told) tag
-      (is_asked_for (plain_selectors texts) old.told.esi (heard old.told) tag) matched new.tries
-  pub told :
-      heard new.told
-      ≡ heard old.told
-      ++ told_of (plain_selectors texts) (document (plain_selectors texts) old.told.esi (heard old.told)) (Start tag) ∷ []
+-- A start tag whose attributes are at hand is answered so.
+abbrev pub IsHandedPlainly : {T : Type 0} → List Text → Matching T → StartTag → List MatchInfo → Tries → Type 0
+IsHandedPlainly texts old tag matched tries =
+    IsAnsweredBy (plain_selectors texts) old (heard old.told) tag (is_asked_for (plain_selectors texts) old.told.esi (heard old.told) tag) matched tries
 
 -- A start tag of this name and namespace is refused for this.
 abbrev pub RefusesStartPlainly : {T : Type 0} → MatcherError → List Text → Matching T → List ℕ → Namespace → Type 0
@@ -95,42 +90,6 @@ RefusesPlainly error texts m events tag = IsRefusedFor error (TextsAreFlat texts
 
 -- 3. The last event that was heard
 
--- the last of a list, or a given one where there is none
-abbrev pub last_or : {A : Type 0} → A → List A → A
-last_or given [] = given
-last_or given (x ∷ xs) = last_or x xs
-
--- What the texts' selectors answer to it. Before the first event nothing was closed.
-abbrev pub last_answer : List Text → Told → Answer
-last_answer texts told = last_or (Ended []) (answers (plain_selectors texts) told.esi (heard told))
-
--- what an answer reports: an end tag, and a start tag that is dropped, are reported under nothing
-abbrev pub matches_in : Answer → List Match
-matches_in (Started matched asked name_tries attribute_tries) = matched
-matches_in Dropped = []
-matches_in (Ended closed) = []
-
--- So many nodes are tried for a start tag that is reported.
-abbrev pub HasTries : Answer → Tries → Type 0
-HasTries (Started matched asked name_tries attribute_tries) tries =
-    (names_counted tries ≡ name_tries) × (attributes_counted tries ≡ attribute_tries)
-HasTries Dropped tries = Unit {0}
-HasTries (Ended closed) tries = Unit {0}
-
--- whether an event opens an element
-abbrev pub opens_by : Selectors → Bool → Document → Event → Bool
-opens_by s esi d (Start tag) = has_content esi tag && not (is_dropped s (element_of d tag) d.open_elements)
-opens_by s esi d (End name) = false
-
--- event by event, from what has come before
-abbrev pub opens_from : Selectors → Bool → Document → List Event → List Bool
-opens_from s esi d [] = []
-opens_from s esi d (event ∷ events) = opens_by s esi d event ∷ opens_from s esi (after s esi d event) events
-
--- Whether it opened an element, by the texts' selectors.
-abbrev pub last_opens : List Text → Told → Bool
-last_opens texts told = last_or false (opens_from (plain_selectors texts) told.esi empty (heard told))
-
 -- The reasons for it, by the texts' selectors; there are none before the first.
 abbrev pub plain_reasons : List Text → Told → List Reason
 plain_reasons texts told = last_or [] (explanations (plain_selectors texts) told.esi (added_by texts) (heard told))
@@ -141,7 +100,5 @@ HasOpenPlainly texts m = m.open_elements ≡ (document (plain_selectors texts) m
 
 -- It is answered so, and these elements are open.
 pub record IsShownPlainly {T : Type 0} (texts : List Text) (m : Matching T) (matched : List MatchInfo) : Type 0 where
-  pub reported : map match_of matched ≡ matches_in (last_answer texts m.told)
-  pub tried : HasTries (last_answer texts m.told) m.tries
-  pub opened : m.opened ≡ last_opens texts m.told
+  pub last : IsLast (plain_selectors texts) m.told matched m.tries m.opened
   pub open_elements : HasOpenPlainly texts m

@@ -1,5 +1,4 @@
 -- What leads from items under their numbers to the selectors as they were added.
-use Rattle.lol_laws.specs.ToldTags.{ToldIsAnsweredAlike}
 use Rattle.lol_reasons.specs.NumberingLaws.{NodesDecideTheRest, NumbersChangeNoNode, NumbersNameWhatMatches}
 use Rattle.lol_reasons.specs.ReasonLaws.{EachHasOneReason, PairsAreAdded, ReasonsGiveReport}
 
@@ -11,4 +10,3 @@ pub record LawsHold : Type 0 where
   pub pairs_are_added : PairsAreAdded
   pub reasons_give_report : ReasonsGiveReport
   pub each_has_one : EachHasOneReason
-  pub told_alike : ToldIsAnsweredAlike

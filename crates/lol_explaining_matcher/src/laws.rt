@@ -2,7 +2,6 @@
 
 ghost use Rattle.lol_explaining_matcher.specs.PlainLaws.{LawsHold};
 
-use lol_laws::run_laws::told_tags_answer_alike;
 use lol_reasons::laws::{
     numbers_change_reports_alone, numbers_name_what_matches, reasons_explain_reports,
     texts_add_pairs,
@@ -16,5 +15,4 @@ pub(crate) fn plain_laws()
     numbers_name_what_matches();
     texts_add_pairs();
     reasons_explain_reports();
-    told_tags_answer_alike();
 }

@@ -4,14 +4,11 @@
 mod builder;
 mod laws;
 mod matcher;
-mod notes;
-mod reports;
 
 pub use builder::ExplainingMatcherBuilder;
 pub use lol_matcher::{
-    AddError, AttributeBuffer, AttributeOutline, Attributes, AuxStartTagInfo, Bytes, ElementValue,
-    ErrorLocation, MatchId, MatchInfo, MatcherError, Namespace, Range, SelectorError, Started,
-    Tries,
+    AddError, AttributeBuffer, AttributeOutline, Attributes, AuxStartTagInfo, Bytes, ErrorLocation,
+    MatchId, MatchInfo, MatcherError, Namespace, OpenElement, Range, SelectorError, Started, Tries,
 };
 pub use lol_reasons::{ItemOfText, NumberingError, Reason};
 pub use matcher::ExplainingMatcher;

@@ -1,26 +1,28 @@
 //! The explaining matcher.
 
+ghost use Rattle.std.specs.Prelude.{◌≡◌, [], true, IfErr, OnOk};
+ghost use Rattle.lol_matcher.specs.Explaining.{ForTexts, ReportsFor, reasons_told, report_under};
+ghost use Rattle.lol_reasons.specs.Numbered.{items_of};
+
 use crate::builder::ExplainingMatcherBuilder;
 use crate::laws::plain_laws;
-use crate::notes::Notes;
-use crate::reports::numbers_of;
 use lol_matcher::{
-    AuxStartTagInfo, ElementValue, MatchInfo, Matcher, MatcherError, Namespace, Started, Tries,
+    AuxStartTagInfo, MatchInfo, Matcher, MatcherError, Namespace, OpenElement, Started, Tries,
 };
 use lol_reasons::{Explainer, NumberingError, Reason, Texts};
-use lol_vm::vm_laws::standing_counts;
 use std::alloc::{AllocError, Global};
 use std::marker::Model;
 
-/// A `Matcher` that says why the last start tag was reported. Its machine reports the items of the texts, each under its number, and the
-/// numbers of the start tags whose elements are open are kept beside it.
+/// A `Matcher` that says why the last start tag was reported. Its machine reports the items of the texts, each under its number.
 #[derive(Drop)]
 pub struct ExplainingMatcher<T = ()> {
     alloc: Global,
     texts: Texts,
     explainer: Explainer,
     matcher: Matcher<T>,
-    notes: Notes,
+    // What the last tag was reported under, by the ids of the texts.
+    matches: Vec<MatchInfo>,
+    failed: bool,
 }
 
 impl<T> Model for ExplainingMatcher<T> {
@@ -38,11 +40,11 @@ impl<T> Model for ExplainingMatcher<T> {
     ghost view = { λ m. record {
       texts = m.texts;
       items = m.matcher;
-      failed = m.notes.failed;
-      matched = m.notes.matched;
+      failed = m.failed;
+      matched = m.matches.items;
     } };
 
-    ghost invariant = { λ m. Explains (texts_in m.texts) m.explainer m.notes m.matcher };
+    ghost invariant = { λ m. Explains (texts_in m.texts) m.explainer m.matcher m.failed m.matches.items };
 }
 
 impl ExplainingMatcher {
@@ -61,7 +63,7 @@ impl<T: Drop> ExplainingMatcher<T> {
     ghost use Rattle.lol_base.specs.StartTags.{RangesAreInside};
     ghost use Rattle.lol_instructions.specs.declared.tries.Tries.{Tries};
     ghost use Rattle.lol_stack.specs.Calls.{IsCalledAtEach};
-    ghost use Rattle.lol_matcher.specs.Answering.{Answers, IfWaits, IsAnsweredAfter, IsFinishedAs, LeavesOpen, OpensFor, OpensStart, last_value, told_after, with_told};
+    ghost use Rattle.lol_matcher.specs.Answering.{Answers, IfWaits, IsAnsweredAfter, IsFinishedAs, OpensFor, OpensStart, last_value, told_after, with_told};
     ghost use Rattle.lol_matcher.specs.Building.{Building, started_with};
     ghost use Rattle.lol_matcher.specs.Keeping.{IsRefusal};
     ghost use Rattle.lol_matcher.specs.Noted.{finished_told, handed, handed_told, started_told};
@@ -72,9 +74,11 @@ impl<T: Drop> ExplainingMatcher<T> {
     ghost use Rattle.lol_reasons.specs.Numbered.{HoldsItems, reason_shown, texts_in};
     ghost use Rattle.lol_vm.specs.Views.{match_of};
     ghost use Rattle.lol_vm.specs.Vms.{open_after};
-    ghost use Rattle.lol_explaining_matcher.specs.Explaining.{AreNumbered, ReportsFor, reasons_told, with_end, with_last};
+    ghost use Rattle.lol_matcher.specs.Explaining.{AreNumbered};
+    ghost use Rattle.lol_matcher.specs.Last.{HasTries, last_answer, last_opens, matches_in};
+    ghost use Rattle.lol_explaining_matcher.specs.Explaining.{LeavesOpen, with_end, with_last};
     ghost use Rattle.lol_program.specs.Asts.{is_with_rows};
-    ghost use Rattle.lol_explaining_matcher.specs.Plain.{FinishesPlainly, HasOpenPlainly, HasTries, IsHandedPlainly, RefusesPlainly, RefusesStartPlainly, StartsPlainly, last_answer, last_opens, matches_in, plain_reasons};
+    ghost use Rattle.lol_explaining_matcher.specs.Plain.{FinishesPlainly, HasOpenPlainly, IsHandedPlainly, RefusesPlainly, RefusesStartPlainly, StartsPlainly, plain_reasons, plain_selectors};
 
     /// An explaining matcher of the items of texts, and of what explains them.
     pub(crate) fn new(
@@ -98,7 +102,8 @@ impl<T: Drop> ExplainingMatcher<T> {
             texts,
             explainer,
             matcher,
-            notes: Notes::new(alloc),
+            matches: Vec::new(alloc),
+            failed: false,
         })
     }
 
@@ -109,16 +114,16 @@ impl<T: Drop> ExplainingMatcher<T> {
             (reasons_told (texts_in self.now.texts) self.now.items.told) self.now.matched }
         ensures none { self.now.failed ≡ true → self.now.matched ≡ [] }
         ensures plainly { self.now.failed ≡ false → map match_of self.now.matched
-            ≡ matches_in (last_answer (texts_in self.now.texts) self.now.items.told) }
+            ≡ matches_in (last_answer (plain_selectors (texts_in self.now.texts)) self.now.items.told) }
     {
-        self.notes.matches()
+        &self.matches
     }
 
     /// How many nodes were tried for the last start tag that wasn't answered `Failed`, its finishing included.
     pub fn tries(&self) -> Tries
         ensures tries { result ≡ self.now.items.tries }
         ensures plainly { self.now.failed ≡ false
-            → HasTries (last_answer (texts_in self.now.texts) self.now.items.told) result }
+            → HasTries (last_answer (plain_selectors (texts_in self.now.texts)) self.now.items.told) result }
     {
         self.matcher.tries()
     }
@@ -128,7 +133,7 @@ impl<T: Drop> ExplainingMatcher<T> {
         ensures failed { result ≡ self.now.failed }
         ensures plainly { self.now.failed ≡ false → HasOpenPlainly (texts_in self.now.texts) self.now.items }
     {
-        self.notes.has_failed()
+        self.failed
     }
 
     /// Whether the last tag was a start tag that was reported, and opened its element: it has content, so that an end tag may come.
@@ -136,9 +141,9 @@ impl<T: Drop> ExplainingMatcher<T> {
         ensures opened { self.now.failed ≡ false → result ≡ self.now.items.opened }
         ensures failed { self.now.failed ≡ true → result ≡ false }
         ensures plainly { self.now.failed ≡ false
-            → result ≡ last_opens (texts_in self.now.texts) self.now.items.told }
+            → result ≡ last_opens (plain_selectors (texts_in self.now.texts)) self.now.items.told }
     {
-        !self.notes.has_failed() && self.matcher.has_opened()
+        !self.failed && self.matcher.has_opened()
     }
 
     /// Why the last tag was reported: a reason for each item that matches its element, in the order of adding. There is none where it is an
@@ -155,14 +160,10 @@ impl<T: Drop> ExplainingMatcher<T> {
             → map reason_shown told.items ≡ plain_reasons (texts_in self.now.texts) self.now.items.told) }
     {
         plain_laws();
-        if !self.notes.is_reported() {
+        if self.failed {
             return Ok(Vec::new(self.alloc));
         }
-        let matched = numbers_of(self.alloc, self.matcher.matches())?;
-        let around = self.notes.around(self.matcher.has_opened());
-        let number = self.notes.number();
-        self.explainer
-            .reasons(self.matcher.machine(), &matched, number, around)
+        self.matcher.explain(self.alloc, &self.explainer)
     }
 
     /// A start tag: it is reported, or its attributes are asked for. A start tag that waits for its attributes is dropped.
@@ -191,22 +192,28 @@ impl<T: Drop> ExplainingMatcher<T> {
         ensures refused_plainly { IfErr result (λ error. self.old.failed ≡ false
             → RefusesStartPlainly error (texts_in self.old.texts) self.old.items name.now ns) }
     {
-        if self.notes.has_failed() {
+        if self.failed {
             return Err(MatcherError::Failed);
         }
         plain_laws();
         match self.matcher.start(name, ns) {
             Ok(Started::Reported) => {
-                self.notes.count();
-                self.notes.report(&self.explainer, &self.matcher)?;
+                keep_report(
+                    self.alloc,
+                    &self.explainer,
+                    &self.matcher,
+                    &mut self.matches,
+                    &mut self.failed,
+                )?;
                 Ok(Started::Reported)
             }
             Ok(Started::NeedsAttributes) => {
-                self.notes.count();
+                self.matches.clear();
                 Ok(Started::NeedsAttributes)
             }
             Err(cause) => {
-                self.notes.fail();
+                self.matches.clear();
+                self.failed = true;
                 Err(cause)
             }
         }
@@ -222,7 +229,7 @@ impl<T: Drop> ExplainingMatcher<T> {
         ensures reported { OnOk result (IfWaits self.old.items.told aux_info.entry (λ tag.
             IsFinishedAs self.old.items.told tag self.new.items)) }
         ensures opens { OnOk result (IfWaits self.old.items.told aux_info.entry (λ tag.
-            OpensFor tag self.old.items self.new.items)) }
+            OpensFor self.old.items.told.events tag self.old.items self.new.items)) }
         ensures ok { OnOk result (self.new.items
             ≡ with_told (finished_told self.old.items.told aux_info.entry) self.old.items self.new.items) }
         ensures fits { OnOk result (IfWaits self.old.items.told aux_info.entry (λ tag.
@@ -247,18 +254,25 @@ impl<T: Drop> ExplainingMatcher<T> {
             → IfWaits self.old.items.told aux_info.entry (λ tag. RefusesPlainly error
             (texts_in self.old.texts) self.old.items self.old.items.told.events tag)) }
     {
-        if self.notes.has_failed() {
+        if self.failed {
             return Err(MatcherError::Failed);
         }
         plain_laws();
         match self.matcher.finish(aux_info) {
             Ok(()) => {
-                self.notes.report(&self.explainer, &self.matcher)?;
+                keep_report(
+                    self.alloc,
+                    &self.explainer,
+                    &self.matcher,
+                    &mut self.matches,
+                    &mut self.failed,
+                )?;
                 Ok(())
             }
             Err(error) => {
                 if self.matcher.has_failed() {
-                    self.notes.fail();
+                    self.matches.clear();
+                    self.failed = true;
                 }
                 Err(error)
             }
@@ -279,7 +293,7 @@ impl<T: Drop> ExplainingMatcher<T> {
         ensures answered { OnOk result
             (IsAnsweredAfter self.old.items.told (handed name.now ns aux_info.entry) self.new.items) }
         ensures opens { OnOk result
-            (OpensFor (handed name.now ns aux_info.entry) self.old.items self.new.items) }
+            (OpensFor (heard self.old.items.told) (handed name.now ns aux_info.entry) self.old.items self.new.items) }
         ensures fits { OnOk result (refusal_of self.old.items (heard self.old.items.told)
             (handed name.now ns aux_info.entry) ≡ None) }
         ensures ok { OnOk result (self.new.items
@@ -299,25 +313,31 @@ impl<T: Drop> ExplainingMatcher<T> {
             self.old.items self.new.items) }
         ensures unchanged { IfErr result (λ error. (IsRefusal error → ⊥) → self.new ≡ self.old) }
         ensures texts { self.new.texts ≡ self.old.texts }
-        ensures plainly { OnOk result (IsHandedPlainly (texts_in self.old.texts) self.old.items self.new.items
-            (handed name.now ns aux_info.entry) self.new.matched) }
+        ensures plainly { OnOk result (IsHandedPlainly (texts_in self.old.texts) self.old.items
+            (handed name.now ns aux_info.entry) self.new.matched self.new.items.tries) }
         ensures refused_plainly { IfErr result (λ error. IsRefusal error
             → RefusesPlainly error (texts_in self.old.texts) self.old.items (heard self.old.items.told)
             (handed name.now ns aux_info.entry)) }
     {
-        if self.notes.has_failed() {
+        if self.failed {
             return Err(MatcherError::Failed);
         }
         plain_laws();
         match self.matcher.start_with(name, ns, aux_info) {
             Ok(()) => {
-                self.notes.count();
-                self.notes.report(&self.explainer, &self.matcher)?;
+                keep_report(
+                    self.alloc,
+                    &self.explainer,
+                    &self.matcher,
+                    &mut self.matches,
+                    &mut self.failed,
+                )?;
                 Ok(())
             }
             Err(why) => {
                 if self.matcher.has_failed() {
-                    self.notes.fail();
+                    self.matches.clear();
+                    self.failed = true;
                 }
                 Err(why)
             }
@@ -338,11 +358,11 @@ impl<T: Drop> ExplainingMatcher<T> {
     pub fn end(&mut self, name: &[u8])
         ensures { self.new ≡ with_end self.old name.now }
     {
-        self.end_with(name, &mut |_element: ElementValue<Option<T>>| {});
+        self.end_with(name, &mut |_element: OpenElement<T>| {});
     }
 
     /// The same, and the handler is called with what was kept of each closed element, the outermost first.
-    pub fn end_with<F: FnMut(ElementValue<Option<T>>)>(&mut self, name: &[u8], handler: &mut F)
+    pub fn end_with<F: FnMut(OpenElement<T>)>(&mut self, name: &[u8], handler: &mut F)
         requires { F.IsAlwaysCallable handler.old }
         ensures again { F.IsAlwaysCallable handler.new }
         ensures ended { self.new ≡ with_end self.old name.now }
@@ -350,9 +370,36 @@ impl<T: Drop> ExplainingMatcher<T> {
             (drop (length (open_after name.now self.old.items.open_elements)) self.old.items.kept) handler.new }
     {
         plain_laws();
-        standing_counts::<ElementValue<Option<T>>>();
         self.matcher.end_with(name, handler);
-        self.notes.count();
-        self.notes.close(self.matcher.machine().open_elements());
+        self.matches.clear();
+    }
+}
+
+/// Keeps what the last tag was reported under, by the ids of the texts. Where memory is refused for that, so is the tag.
+fn keep_report<T: Drop>(
+    alloc: Global,
+    explainer: &Explainer,
+    matcher: &Matcher<T>,
+    matches: &mut Vec<MatchInfo>,
+    failed: &mut bool,
+) -> Result<(), MatcherError>
+    ensures kept { OnOk result (matches.new.items
+        ≡ report_under (items_of explainer.now) matcher.now.opened matcher.now.matched) }
+    ensures reported { OnOk result (ForTexts explainer.now matcher.now (λ texts.
+        ReportsFor matcher.now.opened (reasons_told texts matcher.now.told) matches.new.items)) }
+    ensures well { OnOk result (failed.new ≡ failed.old) }
+    ensures refused { IfErr result (λ error.
+        (error ≡ MatcherError.Memory) × (matches.new.items ≡ []) × (failed.new ≡ true)) }
+{
+    match matcher.report(alloc, explainer) {
+        Ok(report) => {
+            *matches = report;
+            Ok(())
+        }
+        Err(_) => {
+            matches.clear();
+            *failed = true;
+            Err(MatcherError::Memory)
+        }
     }
 }

@@ -1,24 +1,26 @@
 -- Whether a start tag is refused, by what a machine has.
-use Rattle.std.proofs.Common.{◌≡◌, ℕ, suc, ◌+◌, ◌*◌, ◌≤◌, ◌<◌, ◌^◌, Bool, true, false, true≢false, length, Option, Some, None, Result, Err, inl, refl, sym, ap, ◌∙◌, subst, arith}
-use Rattle.std.specs.Prelude.{max, nat_lt, ◌&&◌, not, if◌then◌else◌, IfErr, ◌↔◌}
+use Rattle.std.proofs.Common.{◌≡◌, ℕ, suc, ◌+◌, ◌*◌, ◌≤◌, ◌<◌, ◌^◌, Bool, true, false, true≢false, [], length, map, Option, Some, None, Result, Err, inl, refl, sym, ap, ◌∙◌, subst, arith}
+use Rattle.std.specs.Prelude.{max, nat_lt, ◌&&◌, not, if◌then◌else◌, IfErr, ◌↔◌, Vec}
 use Rattle.std.proofs.lemmas.Bool.{false≢true}
 use Rattle.std.proofs.lemmas.Bool.Decides.{nat_tests}
+use Rattle.std.specs.Global.{Global}
 use Rattle.lol_base.specs.StartTags.{StartTag}
 use Rattle.lol_memory.specs.LimitedVec.{LimitedVec, IsLimited}
 use Rattle.lol_memory.specs.Limiter.{Limiter}
 use Rattle.lol_memory.specs.Slots.{slots}
+use Rattle.lol_memory.specs.declared.match_info.MatchInfo.{MatchInfo}
 use Rattle.lol_program.specs.Paths.{Selectors}
 use Rattle.lol_vm.specs.Answers.{is_dropped}
 use Rattle.lol_vm.specs.Documents.{Document, element_of, after_start}
 use Rattle.lol_vm.specs.Events.{Start, has_content}
 use Rattle.lol_vm.specs.Refusals.{Allowance, Cause, Limit, Counter, exceeds, greatest_count, refusal}
-use Rattle.lol_matcher.specs.Answering.{Kept, LeavesOpen, SameOpen}
 use Rattle.lol_matcher.specs.Keeping.{IsCharged, IsRefusal, Keeps}
 use Rattle.lol_matcher.specs.Refusing.{IsRefusedFor, allowance}
-use Rattle.lol_matcher.specs.Told.{History, Told, Matching}
+use Rattle.lol_matcher.specs.Told.{History, Matching, numbers_open}
 use Rattle.lol_matcher.specs.declared.error.MatcherError.{MatcherError}
 use Rattle.lol_matcher.specs.declared.error.MatcherError.TheVariants.{MemoryLimitExceeded, Memory, CounterFull, Failed, NotAsked, OutsideInput}
-use Rattle.lol_vm.specs.Vms.{Vm, HasOpen}
+use Rattle.lol_matcher.specs.declared.open_element.OpenElement.{OpenElement}
+use Rattle.lol_vm.specs.Vms.{Vm, HasOpen, data_in}
 use Rattle.lol_vm.specs.declared.error.AuxStartTagInfoRequest.{AuxStartTagInfoRequest}
 use Rattle.lol_vm.specs.ChargeLaws.{stays_within_alone, passes_maximum_alone}
 
@@ -42,30 +44,21 @@ not_failed {A} {T} shows unfailed refusal = (
   λ failed. absurd (false≢true (sym (ap (λ (m : Matching T). m.failed) (sym shows) ∙ unfailed) ∙ failed)),
 )
 
--- where memory was refused for the list of a report, the tag wasn't to be refused
-pub refused_unreported : {free : Type 0} {refusal : Option Cause} → refusal ≡ None → IsRefusedFor Memory free refusal
-refused_unreported none = (λ full. none_is_some none full, λ free over. none_is_some none over)
-  where
-    none_is_some : {cause : Cause} {refusal : Option Cause} → refusal ≡ None → refusal ≡ Some cause → ⊥
-    none_is_some none is = cc
-
--- the same elements are open after any refusal that leaves them so
-pub left_same : {T : Type 0} (error : MatcherError) (told : Told) (tag : StartTag) (old new : Matching T) → SameOpen old new → LeavesOpen error told tag old new
-left_same MemoryLimitExceeded told tag old new h = h
-left_same Memory told tag old new h = inl h
-left_same CounterFull told tag old new h = h
-left_same Failed told tag old new h = h
-left_same NotAsked told tag old new h = h
-left_same OutsideInput told tag old new h = h
-
--- a matcher that has failed keeps its charge and its open elements
-pub keeps_failed : {T : Type 0} {history : History} {vm : Vm (Kept T)} {request : Option (AuxStartTagInfoRequest (Kept T))} {limiter : Limiter} → IsCharged vm limiter → HasOpen vm history.open_elements → Keeps history true vm request limiter
-keeps_failed charged open_elements = record {
+-- a matcher that has failed keeps its charge and its open elements, and reports nothing
+pub keeps_failed : {T : Type 0} {history : History} {vm : Vm (OpenElement T)} {request : Option (AuxStartTagInfoRequest (OpenElement T))} {matches : Vec MatchInfo Global} {limiter : Limiter} {count : ℕ} {opened : Bool}
+    → IsCharged vm limiter → HasOpen vm history.open_elements → map (λ (element : OpenElement T). element.number) (data_in vm) ≡ numbers_open history.open_elements → matches.items ≡ []
+    → Keeps history true vm request matches limiter count opened
+keeps_failed charged open_elements numbered silent = record {
   charged = charged;
   has_open = open_elements;
+  numbered = numbered;
   runs = λ well. absurd (true≢false well);
   waits = λ well. absurd (true≢false well);
   told_open = λ well. absurd (true≢false well);
+  room = λ well. absurd (true≢false well);
+  counted = λ well. absurd (true≢false well);
+  last = λ well. absurd (true≢false well);
+  silent = λ failed. silent;
 }
 
 -- A list has as many elements as are open, and slots for the most that were, which a limiter is charged for.

@@ -19,10 +19,10 @@ use Rattle.lol_vm.specs.VmLaws.{PendingStands, SlotsAreOfDepth, StandingCounts}
 use Rattle.lol_vm.specs.Vms.{Vm, ChargesSlots, Stands, IsAnswered, IsPending, IsTriedAtMost, data_in, info_of, tries_in, stack_in, slot_bytes}
 use Rattle.lol_vm.specs.declared.error.AuxStartTagInfoRequest.{AuxStartTagInfoRequest}
 use Rattle.lol_vm.specs.Openings.{countable_after, has_content_if, opens_nothing, unfinished_is}
-use Rattle.lol_matcher.specs.Answering.{GrowsBy, Kept, KeepsOne}
-use Rattle.lol_matcher.specs.Keeping.{ClearsOpened, IsToldAs, IsAskedFor, IsCharged, IsUnreported, KeepsRunning, Runs, allowed, ids_of}
+use Rattle.lol_matcher.specs.Keeping.{IsToldAs, IsAskedFor, IsCharged, KeepsRunning, NumbersOpened, Runs, allowed, ids_of}
+use Rattle.lol_matcher.specs.declared.open_element.OpenElement.{OpenElement}
 use Rattle.lol_matcher.proofs.Charges.{charged_after}
-use Rattle.lol_matcher.proofs.Opened.{grows_by, is_opened, keeps_one}
+use Rattle.lol_matcher.proofs.Opened.{is_opened, keeps_one}
 use Rattle.lol_matcher.proofs.Refusals.{IsChargedFor, fits, not_refused, opens_in}
 use Rattle.lol_matcher.proofs.Running.{charged_for, runs_on}
 
@@ -46,10 +46,10 @@ module _ {E : Type 0} (depths : SlotsAreOfDepth E) (counts : StandingCounts E) (
       (fits s esi is opens tag unlimited) (countable_after d tag opens countable room)
 
 -- Its attributes are asked for.
-pub asked_for : {T : Type 0} → SlotsAreOfDepth (Kept T) → StandingCounts (Kept T) → DocumentsAreOrdered → PendingStands (Kept T)
-    → (s : Selectors) (esi : Bool) (events : List Event) (tag : StartTag) (old new : Vm (Kept T)) (now later : Limiter) → Runs s esi events old now → (element_of (document s esi events) tag).position ≤ greatest_count
+pub asked_for : {T : Type 0} → SlotsAreOfDepth (OpenElement T) → StandingCounts (OpenElement T) → DocumentsAreOrdered → PendingStands (OpenElement T)
+    → (s : Selectors) (esi : Bool) (events : List Event) (tag : StartTag) (old new : Vm (OpenElement T)) (now later : Limiter) → Runs s esi events old now → (element_of (document s esi events) tag).position ≤ greatest_count
     → slot_bytes new ≡ slot_bytes old → later.maximum ≡ now.maximum → IsCharged new later
-    → (request : AuxStartTagInfoRequest (Kept T)) → IsPending ids_of s esi events tag new request → IsAskedFor s esi events tag (allowed old now) new later request
+    → (request : AuxStartTagInfoRequest (OpenElement T)) → IsPending ids_of s esi events tag new request → IsAskedFor s esi events tag (allowed old now) new later request
 asked_for depths counts ordered dropped s esi events tag old new now later runs room bytes maximum charged request pending =
     let is = charged_for depths counts ordered s esi events old now runs in
     record {
@@ -59,19 +59,14 @@ asked_for depths counts ordered dropped s esi events tag old new now later runs 
           (subst (λ t. Stands s esi new (events ++ Start t ∷ [])) (unfinished_is tag none) (dropped ids_of s esi events tag new request pending));
     }
 
--- A start tag was answered, and an element that it opened is left without a value.
-pub record WasAnswered {T : Type 0} (s : Selectors) (esi : Bool) (events : List Event) (tag : StartTag) (asked : Bool) (matched : List Match) (opened : Bool) (old new : Vm (Kept T)) (now later : Limiter) : Type 0 where
-  pub unreported : IsUnreported s esi events tag (allowed old now) new later
-  pub reported : {items : List MatchInfo} → items ≡ map info_of matched → IsToldAs s esi events tag asked items (allowed old now) new later
-  pub leaves : {items : List MatchInfo} → items ≡ map info_of matched → (opened ≡ has_content esi tag) × KeepsOne (has_content esi tag) items (data_in old) (data_in new)
-  pub grows : GrowsBy (has_content esi tag) (data_in old) (data_in new)
+-- 3. A start tag that was answered, whose element, if it was opened, has a number and no value
 
-module _ {T F : Type 0} {step : F → MatchInfo → Unit {0} → F → Type 0} {f g : F} (depths : SlotsAreOfDepth (Kept T)) (counts : StandingCounts (Kept T)) (ordered : DocumentsAreOrdered) (s : Selectors) (esi : Bool) (events : List Event) (tag : StartTag) {asked : Bool} {old mid new : Vm (Kept T)} {now later : Limiter}
+module _ {T F : Type 0} {step : F → MatchInfo → Unit {0} → F → Type 0} {f g : F} (depths : SlotsAreOfDepth (OpenElement T)) (counts : StandingCounts (OpenElement T)) (ordered : DocumentsAreOrdered) (s : Selectors) (esi : Bool) (events : List Event) (tag : StartTag) {asked : Bool} {old mid new : Vm (OpenElement T)} {now later : Limiter}
     (is : IsChargedFor (document s esi events) (longest s esi events) (list_in (stack_in old)) now) (room : (element_of (document s esi events) tag).position ≤ greatest_count)
     (countable : (parent : _) → children_of parent (document s esi events).children ≤ greatest_count) (told : IsWithinLimit (has_content esi tag) old now × IsAnswered ids_of step s esi events tag asked old mid f g)
-    (charges : ChargesSlots old mid now later) {before : ℕ} (many : before ≡ length (data_in old)) {opened : Bool} (clears : ClearsOpened before opened mid new) where
+    (charges : ChargesSlots old mid now later) {before : ℕ} (many : before ≡ length (data_in old)) {number : ℕ} {opened : Bool} (numbers : NumbersOpened before number opened mid new) where
   abbrev run : KeepsRunning mid new
-  run = clears.running
+  run = numbers.running
 
   unlimited : opens_in s esi (document s esi events) tag ≡ true → IsLimited (list_in (stack_in old)) now → ⊥
   unlimited opening = told.0 (has_content_if s esi events tag opening)
@@ -89,27 +84,19 @@ module _ {T F : Type 0} {step : F → MatchInfo → Unit {0} → F → Type 0} {
   stays_charged = charged_after charges run is.usage
 
   is_content : opened ≡ has_content esi tag
-  is_content = is_opened (has_content esi tag) opened told.1.matched (data_in old) (data_in mid) told.1.opened (subst (λ n. IsTrue opened ↔ (n < length (data_in mid))) many clears.opened)
+  is_content = is_opened (has_content esi tag) opened told.1.matched (data_in old) (data_in mid) told.1.opened (subst (λ n. IsTrue opened ↔ (n < length (data_in mid))) many numbers.opened)
 
-  kept : IsUnreported s esi events tag (allowed old now) new later
-  kept = record {
-    fits = not_refused s esi is tag room unlimited;
-    runs = runs_after depths counts ordered s esi events tag old new now later is room countable unlimited bytes maximum stays_charged stands_on;
-  }
-
-  pub was_answered : WasAnswered s esi events tag asked told.1.matched opened old new now later
-  was_answered = record {
-    unreported = kept;
-    reported = λ {items} same.
-        let matched = ap (map match_of) same ∙ same_matches told.1.matched in
-        record {
-          reported = told.1.answered ∙ (λ i. Started (sym matched i) asked (names_counted (sym run.tries i)) (attributes_counted (sym run.tries i)));
-          fits = kept.fits;
-          runs = kept.runs;
-        };
-    leaves = λ {items} same. (is_content, keeps_one (has_content esi tag) opened told.1.matched items (data_in old) (data_in mid) (data_in new) told.1.opened is_content clears.kept same);
-    grows = grows_by (has_content esi tag) opened told.1.matched (data_in old) (data_in mid) (data_in new) told.1.opened is_content clears.kept;
-  }
+  -- it is told so, where the list has what the handler was called with
+  pub was_told : {items : List MatchInfo} → items ≡ map info_of told.1.matched → IsToldAs s esi events tag asked number opened items (allowed old now) old new later
+  was_told {items} same =
+      let matched = ap (map match_of) same ∙ same_matches told.1.matched in
+      record {
+        reported = told.1.answered ∙ (λ i. Started (sym matched i) asked (names_counted (sym run.tries i)) (attributes_counted (sym run.tries i)));
+        fits = not_refused s esi is tag room unlimited;
+        runs = runs_after depths counts ordered s esi events tag old new now later is room countable unlimited bytes maximum stays_charged stands_on;
+        has_opened = is_content;
+        kept = keeps_one (has_content esi tag) opened number told.1.matched items (data_in old) (data_in mid) (data_in new) told.1.opened is_content numbers.kept same;
+      }
 
 -- as many nodes are tried
 pub tried_on : {E : Type 0} {old new : Vm E} (s : Selectors) (esi : Bool) (events : List Event) (tag : StartTag) → KeepsRunning old new → IsTriedAtMost s esi events tag (tries_in old) → IsTriedAtMost s esi events tag (tries_in new)

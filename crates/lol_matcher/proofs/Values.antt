@@ -7,8 +7,8 @@ use Rattle.lol_program.specs.Paths.{Selectors}
 use Rattle.lol_vm.specs.Events.{Event}
 use Rattle.lol_vm.specs.Vms.{Vm, IsPending}
 use Rattle.lol_vm.specs.declared.error.AuxStartTagInfoRequest.{AuxStartTagInfoRequest}
-use Rattle.lol_matcher.specs.Answering.{Kept}
 use Rattle.lol_matcher.specs.Keeping.{KeepsRunning, Runs, Waits, ids_of}
+use Rattle.lol_matcher.specs.declared.open_element.OpenElement.{OpenElement}
 use Rattle.lol_matcher.proofs.Charges.{charged_on}
 
 pub runs_on : {E : Type 0} (s : Selectors) (esi : Bool) (events : List Event) (old new : Vm E) (now : Limiter) → KeepsRunning old new → Runs s esi events old now → Runs s esi events new now
@@ -22,8 +22,8 @@ runs_on s esi events old new now run runs = record {
 }
 
 -- a request that waits still does
-pub waits_on : {T : Type 0} (s : Selectors) (esi : Bool) (events : List Event) (asked : Option (List ℕ × Namespace)) (old new : Vm (Kept T)) (request : Option (AuxStartTagInfoRequest (Kept T)))
-    → ((s : Selectors) (esi : Bool) (events : List Event) (tag : StartTag) (request : AuxStartTagInfoRequest (Kept T)) → IsPending ids_of s esi events tag old request → IsPending ids_of s esi events tag new request)
+pub waits_on : {T : Type 0} (s : Selectors) (esi : Bool) (events : List Event) (asked : Option (List ℕ × Namespace)) (old new : Vm (OpenElement T)) (request : Option (AuxStartTagInfoRequest (OpenElement T)))
+    → ((s : Selectors) (esi : Bool) (events : List Event) (tag : StartTag) (request : AuxStartTagInfoRequest (OpenElement T)) → IsPending ids_of s esi events tag old request → IsPending ids_of s esi events tag new request)
     → Waits s esi events asked old request → Waits s esi events asked new request
 waits_on s esi events None old new None pending h = tt
 waits_on s esi events None old new (Some request) pending h = h

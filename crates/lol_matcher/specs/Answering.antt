@@ -1,5 +1,5 @@
 -- What a matcher answers.
-use Rattle.std.specs.Prelude.{ℕ, ◌≡◌, Bool, true, false, List, [], ◌∷◌, ◌++◌, length, map, take, Option, None, IfSome, ◌⊎◌}
+use Rattle.std.specs.Prelude.{ℕ, ◌≡◌, Bool, true, false, List, [], ◌∷◌, ◌++◌, length, map, take, Option, None, IfSome}
 use Rattle.lol_base.specs.StartTags.{StartTag}
 use Rattle.lol_base.specs.declared.namespace.Namespace.{Namespace}
 use Rattle.lol_base.specs.declared.start_tag.AuxStartTagInfo.{AuxStartTagInfo}
@@ -8,18 +8,16 @@ use Rattle.lol_instructions.specs.declared.tries.Tries.{Tries}
 use Rattle.lol_memory.specs.Ids.{ascending}
 use Rattle.lol_memory.specs.declared.match_info.MatchInfo.{MatchInfo}
 use Rattle.lol_program.specs.Paths.{Selectors}
-use Rattle.lol_stack.specs.declared.element_value.ElementValue.{ElementValue}
 use Rattle.lol_vm.specs.Answers.{Match, answer, document, report, Started}
 use Rattle.lol_vm.specs.Documents.{element_of}
 use Rattle.lol_vm.specs.Events.{Event, Start, has_content}
 use Rattle.lol_vm.specs.Views.{selectors, match_of}
 use Rattle.lol_vm.specs.Vms.{is_asked_for, open_after}
-use Rattle.lol_matcher.specs.Told.{Told, Matching, elements_of, heard}
+use Rattle.lol_matcher.specs.Told.{Told, Matching, elements_of, heard, in_word}
 use Rattle.lol_matcher.specs.Noted.{handed, started_told, asked_told, ended_told}
-use Rattle.lol_matcher.specs.declared.error.MatcherError.{MatcherError}
-use Rattle.lol_matcher.specs.declared.error.MatcherError.TheVariants.{Memory}
 use Rattle.lol_matcher.specs.declared.matcher.Started as started
 use Rattle.lol_matcher.specs.declared.matcher.Started.TheVariants.{Reported, NeedsAttributes}
+use Rattle.lol_matcher.specs.declared.open_element.OpenElement.{OpenElement}
 
 -- A start tag after events is reported under exactly these, in order, its attributes are asked for or not, and so many nodes are tried.
 abbrev pub IsReported : Selectors → Bool → List Event → StartTag → Bool → List MatchInfo → Tries → Type 0
@@ -46,36 +44,44 @@ Answers Reported t name ns matched tries =
 Answers NeedsAttributes t name ns matched tries =
     (matched ≡ []) × ((tag : StartTag) → tag.name ≡ name → tag.namespace ≡ ns → is_asked_for (selectors t.ast) t.esi (heard t) tag ≡ true)
 
--- what is kept of an open element
-abbrev pub Kept : Type 0 → Type 0
-Kept T = ElementValue (Option T)
+-- a list whose last is changed, if there is one
+abbrev pub change_last : {A : Type 0} → (A → A) → List A → List A
+change_last change [] = []
+change_last change (x ∷ []) = change x ∷ []
+change_last change (x ∷ y ∷ xs) = x ∷ change_last change (y ∷ xs)
 
 -- these elements, where the last has another value
-abbrev pub with_value : {T : Type 0} → Option T → List (Kept T) → List (Kept T)
-with_value value [] = []
-with_value value (element ∷ []) = record element { value = value } ∷ []
-with_value value (element ∷ next ∷ elements) = element ∷ with_value value (next ∷ elements)
+abbrev pub with_value : {T : Type 0} → Option T → List (OpenElement T) → List (OpenElement T)
+with_value value elements = change_last (λ element. record element { value = value }) elements
+
+-- these elements, where the last has this number and no value
+abbrev pub with_last_number : {T : Type 0} → ℕ → List (OpenElement T) → List (OpenElement T)
+with_last_number number elements = change_last (λ element. record element { number = number; value = None }) elements
 
 -- the value of the last of these elements, or a given one where there is none
-abbrev pub last_value : {T : Type 0} → Option T → List (Kept T) → Option T
+abbrev pub last_value : {T : Type 0} → Option T → List (OpenElement T) → Option T
 last_value value [] = value
 last_value value (element ∷ []) = element.value
 last_value value (element ∷ next ∷ elements) = last_value value (next ∷ elements)
 
--- An element with content is opened: it comes last, with exactly the ids that it is reported under, and no value yet.
-abbrev pub KeepsOne : {T : Type 0} → Bool → List MatchInfo → List (Kept T) → List (Kept T) → Type 0
-KeepsOne false matched old new = new ≡ old
-KeepsOne {T} true matched old new =
-    (element : Kept T) × (new ≡ old ++ element ∷ []) × (element.value ≡ None) × (ascending element.matched_ids ≡ map (λ info. info.match_id) matched)
+-- An element with content is opened: it comes last, with its number, exactly the ids that it is reported under, and no value yet.
+abbrev pub KeepsOne : {T : Type 0} → Bool → ℕ → List MatchInfo → List (OpenElement T) → List (OpenElement T) → Type 0
+KeepsOne false number matched old new = new ≡ old
+KeepsOne {T} true number matched old new =
+    (element : OpenElement T)
+    × (new ≡ old ++ element ∷ [])
+    × (element.number ≡ number)
+    × (element.value ≡ None)
+    × (ascending element.matched_ids ≡ map (λ info. info.match_id) matched)
 
--- a matcher that answered a start tag, whose element has content or not: it is open exactly then
-pub record Opens {T : Type 0} (content : Bool) (old new : Matching T) : Type 0 where
+-- a matcher that answered a start tag after so many events, whose element has content or not: it is open exactly then
+pub record Opens {T : Type 0} (content : Bool) (before : ℕ) (old new : Matching T) : Type 0 where
   pub opened : new.opened ≡ content
-  pub kept : KeepsOne content new.matched old.kept new.kept
+  pub kept : KeepsOne content (in_word before) new.matched old.kept new.kept
 
--- the same of a start tag
-abbrev pub OpensFor : {T : Type 0} → StartTag → Matching T → Matching T → Type 0
-OpensFor tag old new = Opens (has_content old.told.esi tag) old new
+-- the same of a start tag after events
+abbrev pub OpensFor : {T : Type 0} → List Event → StartTag → Matching T → Matching T → Type 0
+OpensFor events tag old new = Opens (has_content old.told.esi tag) (length events) old new
 
 -- Of the start tag that waits, with these attributes, this holds, if one waits.
 abbrev pub IfWaits : Told → AuxStartTagInfo → (StartTag → Type 0) → Type 0
@@ -103,10 +109,11 @@ with_told told m new =
 
 -- A start tag of this name and namespace was reported, and its element is open exactly if it has content; or its attributes are asked for.
 abbrev pub OpensStart : {T : Type 0} → started.Started → List ℕ → Namespace → Matching T → Matching T → Type 0
-OpensStart Reported name ns old new = (tag : StartTag) → tag.name ≡ name → tag.namespace ≡ ns → OpensFor tag old new
-OpensStart NeedsAttributes name ns old new = Opens false old new
+OpensStart Reported name ns old new =
+    (tag : StartTag) → tag.name ≡ name → tag.namespace ≡ ns → OpensFor (heard old.told) tag old new
+OpensStart NeedsAttributes name ns old new = Opens false (length (heard old.told)) old new
 
--- A matcher after a refusal: it has failed, nothing is reported, and what it was told is as before.
+-- A matcher after a refusal: it has failed, nothing is reported, and what it was told and what is open are as before.
 abbrev pub refused_with : {T : Type 0} → Matching T → Matching T → Matching T
 refused_with m new =
     record m {
@@ -114,29 +121,7 @@ refused_with m new =
       matched = [];
       tries = new.tries;
       opened = false;
-      open_elements = new.open_elements;
-      kept = new.kept;
     }
-
--- One more element is kept, if it has content.
-abbrev pub GrowsBy : {T : Type 0} → Bool → List (Kept T) → List (Kept T) → Type 0
-GrowsBy false old new = new ≡ old
-GrowsBy {T} true old new = (element : Kept T) × (new ≡ old ++ element ∷ [])
-
--- the same elements are open
-pub record SameOpen {T : Type 0} (old new : Matching T) : Type 0 where
-  pub open_elements : new.open_elements ≡ old.open_elements
-  pub kept : new.kept ≡ old.kept
-
--- A tag's report couldn't be kept: its element is open as if it had been told.
-pub record OpensUnreported {T : Type 0} (told : Told) (content : Bool) (old new : Matching T) : Type 0 where
-  pub open_elements : new.open_elements ≡ elements_of told
-  pub kept : GrowsBy content old.kept new.kept
-
--- what is open after a refusal: where memory is refused for the list of the report, the tag's element too
-abbrev pub LeavesOpen : {T : Type 0} → MatcherError → Told → StartTag → Matching T → Matching T → Type 0
-LeavesOpen Memory told tag old new = SameOpen old new ⊎ OpensUnreported told (has_content old.told.esi tag) old new
-LeavesOpen error told tag old new = SameOpen old new
 
 -- a matcher after an end tag
 abbrev pub with_ended : {T : Type 0} → Matching T → List ℕ → Matching T

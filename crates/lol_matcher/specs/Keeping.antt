@@ -1,5 +1,6 @@
 -- What holds between a matcher's parts.
-use Rattle.std.specs.Prelude.{ℕ, ◌*◌, ◌^◌, ◌≡◌, ◌≤◌, ◌<◌, Bool, true, false, List, [], ◌∷◌, ◌++◌, length, Option, Some, None, IsTrue, ◌↔◌, if◌then◌else◌}
+use Rattle.std.specs.Prelude.{ℕ, ◌+◌, ◌*◌, ◌^◌, ◌≡◌, ◌≤◌, ◌<◌, Bool, true, false, List, [], ◌∷◌, ◌++◌, length, map, Option, Some, None, IsTrue, ◌↔◌, if◌then◌else◌, Vec, vec_capacity}
+use Rattle.std.specs.Global.{Global}
 use Rattle.lol_base.specs.StartTags.{StartTag}
 use Rattle.lol_base.specs.declared.namespace.Namespace.{Namespace}
 use Rattle.lol_base.specs.declared.start_tag.AuxStartTagInfo.{AuxStartTagInfo}
@@ -12,21 +13,21 @@ use Rattle.lol_vm.specs.Answers.{document, is_dropped}
 use Rattle.lol_vm.specs.Documents.{children_of, element_of}
 use Rattle.lol_vm.specs.Events.{Event, Start, has_content}
 use Rattle.lol_vm.specs.Refusals.{Allowance, greatest_count}
+use Rattle.lol_vm.specs.ReportRoom.{HoldsEachReport}
 use Rattle.lol_vm.specs.Views.{selectors}
 use Rattle.lol_vm.specs.Vms.{Vm, Stands, HasOpen, IsPending, IsRestOf, data_in, is_asked_for, slots_charged, slot_bytes, tries_in}
 use Rattle.lol_vm.specs.declared.error.AuxStartTagInfoRequest.{AuxStartTagInfoRequest}
-use Rattle.lol_matcher.specs.Answering.{GrowsBy, IsReported, Kept, KeepsOne, with_value}
-use Rattle.lol_laws.specs.AskedRuns.{told_of}
+use Rattle.lol_matcher.specs.Answering.{IsReported, KeepsOne, with_last_number}
+use Rattle.lol_matcher.specs.Last.{IsLast}
 use Rattle.lol_matcher.specs.Refusing.{allowance, refusal_after}
-use Rattle.lol_matcher.specs.Told.{History, elements_of, heard}
+use Rattle.lol_matcher.specs.Told.{History, elements_of, heard, in_word, numbers_open}
 use Rattle.lol_matcher.specs.declared.error.MatcherError.{MatcherError}
 use Rattle.lol_matcher.specs.declared.error.MatcherError.TheVariants.{MemoryLimitExceeded, Memory, CounterFull, Failed, NotAsked, OutsideInput}
+use Rattle.lol_matcher.specs.declared.open_element.OpenElement.{OpenElement}
 use Rattle.lol_matcher.specs.declared.tags.Answered.{Answered}
-use Rattle.lol_matcher.specs.declared.tags.Finished as finished
-use Rattle.lol_matcher.specs.declared.tags.Finished.TheVariants as finishes
-use Rattle.lol_matcher.specs.declared.tags.Answered.TheVariants.{Reported, Unreported, Asked}
+use Rattle.lol_matcher.specs.declared.tags.Answered.TheVariants.{Reported, Asked}
 
-abbrev pub ids_of : {T : Type 0} → Kept T → Ids
+abbrev pub ids_of : {T : Type 0} → OpenElement T → Ids
 ids_of element = element.matched_ids
 
 -- a limiter whose usage is a machine's charge
@@ -46,14 +47,17 @@ pub record Runs {E : Type 0} (s : Selectors) (esi : Bool) (events : List Event) 
 abbrev pub allowed : {E : Type 0} → Vm E → Limiter → Allowance
 allowed vm limiter = allowance (slot_bytes vm) limiter.maximum
 
--- A start tag was answered: it is reported under these, wasn't to be refused, and the machine runs on.
-pub record IsToldAs {E : Type 0} (s : Selectors) (esi : Bool) (events : List Event) (tag : StartTag) (asked : Bool) (matched : List MatchInfo) (a : Allowance) (vm : Vm E) (limiter : Limiter) : Type 0 where
-  pub reported : IsReported s esi events tag asked matched (tries_in vm)
+-- A start tag was answered: it is reported under these, wasn't to be refused, and the machine runs on. Its element is opened under a number
+-- exactly if it has content.
+pub record IsToldAs {T : Type 0} (s : Selectors) (esi : Bool) (events : List Event) (tag : StartTag) (asked : Bool) (number : ℕ) (opened : Bool) (matched : List MatchInfo) (a : Allowance) (old new : Vm (OpenElement T)) (limiter : Limiter) : Type 0 where
+  pub reported : IsReported s esi events tag asked matched (tries_in new)
   pub fits : refusal_after s esi a events tag ≡ None
-  pub runs : Runs s esi (events ++ Start tag ∷ []) vm limiter
+  pub runs : Runs s esi (events ++ Start tag ∷ []) new limiter
+  pub has_opened : opened ≡ has_content esi tag
+  pub kept : KeepsOne (has_content esi tag) number matched (data_in old) (data_in new)
 
 -- Its attributes are asked for: as it is, the tag wasn't to be refused, and the machine runs on as if it had been dropped.
-pub record IsAskedFor {T : Type 0} (s : Selectors) (esi : Bool) (events : List Event) (tag : StartTag) (a : Allowance) (vm : Vm (Kept T)) (limiter : Limiter) (request : AuxStartTagInfoRequest (Kept T)) : Type 0 where
+pub record IsAskedFor {T : Type 0} (s : Selectors) (esi : Bool) (events : List Event) (tag : StartTag) (a : Allowance) (vm : Vm (OpenElement T)) (limiter : Limiter) (request : AuxStartTagInfoRequest (OpenElement T)) : Type 0 where
   pub pending : IsPending ids_of s esi events tag vm request
   pub fits : tag.finish ≡ false → refusal_after s esi a events tag ≡ None
   pub runs : tag.finish ≡ false → Runs s esi (events ++ Start tag ∷ []) vm limiter
@@ -64,18 +68,6 @@ pub record RunsPast {E : Type 0} (s : Selectors) (esi : Bool) (events : List Eve
   pub dropped : is_dropped s (element_of (document s esi events) tag) (document s esi events).open_elements ≡ true
   pub runs : Runs s esi (events ++ Start tag ∷ []) vm limiter
 
--- A start tag whose attributes are at hand was answered: it is reported under these, wasn't to be refused, and the machine runs on over what
--- it was told of it.
-pub record IsHandedAs {E : Type 0} (s : Selectors) (esi : Bool) (events : List Event) (tag : StartTag) (matched : List MatchInfo) (a : Allowance) (vm : Vm E) (limiter : Limiter) : Type 0 where
-  pub reported : IsReported s esi events tag (is_asked_for s esi events tag) matched (tries_in vm)
-  pub fits : refusal_after s esi a events tag ≡ None
-  pub runs : Runs s esi (events ++ told_of s (document s esi events) (Start tag) ∷ []) vm limiter
-
--- The same, but memory was refused for the list of its report.
-pub record IsHandedUnreported {E : Type 0} (s : Selectors) (esi : Bool) (events : List Event) (tag : StartTag) (a : Allowance) (vm : Vm E) (limiter : Limiter) : Type 0 where
-  pub fits : refusal_after s esi a events tag ≡ None
-  pub runs : Runs s esi (events ++ told_of s (document s esi events) (Start tag) ∷ []) vm limiter
-
 -- what refuses a tag, and all that come later
 abbrev pub IsRefusal : MatcherError → Type 0
 IsRefusal MemoryLimitExceeded = Unit {0}
@@ -85,35 +77,10 @@ IsRefusal Failed = ⊥
 IsRefusal NotAsked = ⊥
 IsRefusal OutsideInput = ⊥
 
--- A start tag was answered, but memory was refused for the list of its report: it wasn't to be refused, and the machine runs on.
-pub record IsUnreported {E : Type 0} (s : Selectors) (esi : Bool) (events : List Event) (tag : StartTag) (a : Allowance) (vm : Vm E) (limiter : Limiter) : Type 0 where
-  pub fits : refusal_after s esi a events tag ≡ None
-  pub runs : Runs s esi (events ++ Start tag ∷ []) vm limiter
-
 -- it is answered, or its attributes are asked for
-abbrev pub Tells : {T : Type 0} → Selectors → Bool → List Event → StartTag → Answered T → List MatchInfo → Allowance → Vm (Kept T) → Limiter → Type 0
-Tells s esi events tag (Reported opened) matched a vm limiter = IsToldAs s esi events tag false matched a vm limiter
-Tells s esi events tag Unreported matched a vm limiter = IsUnreported s esi events tag a vm limiter
-Tells s esi events tag (Asked request) matched a vm limiter = IsAskedFor s esi events tag a vm limiter request
-
--- Whether its element is opened, and what is kept of the open elements then
-abbrev pub Leaves : {T : Type 0} → Bool → Answered T → List MatchInfo → List (Kept T) → List (Kept T) → Type 0
-Leaves content (Reported opened) matched old new = (opened ≡ content) × KeepsOne content matched old new
-Leaves content Unreported matched old new = GrowsBy content old new
-Leaves content (Asked request) matched old new = new ≡ old
-
--- A start tag was finished: it is answered, or memory was refused for the list of its report.
-abbrev pub IsFinished : {T : Type 0} → Selectors → Bool → List Event → StartTag → finished.Finished → List MatchInfo → Allowance → Vm (Kept T) → Vm (Kept T) → Limiter → Type 0
-IsFinished s esi events tag (finishes.Reported opened) matched a old new limiter =
-    IsToldAs s esi events tag true matched a new limiter × (opened ≡ has_content esi tag) × KeepsOne (has_content esi tag) matched (data_in old) (data_in new)
-IsFinished s esi events tag finishes.Unreported matched a old new limiter = IsUnreported s esi events tag a new limiter × GrowsBy (has_content esi tag) (data_in old) (data_in new)
-
--- A start tag whose attributes are at hand was answered, or memory was refused for the list of its report.
-abbrev pub IsHanded : {T : Type 0} → Selectors → Bool → List Event → StartTag → finished.Finished → List MatchInfo → Allowance → Vm (Kept T) → Vm (Kept T) → Limiter → Type 0
-IsHanded s esi events tag (finishes.Reported opened) matched a old new limiter =
-    IsHandedAs s esi events tag matched a new limiter × (opened ≡ has_content esi tag) × KeepsOne (has_content esi tag) matched (data_in old) (data_in new)
-IsHanded s esi events tag finishes.Unreported matched a old new limiter =
-    IsHandedUnreported s esi events tag a new limiter × GrowsBy (has_content esi tag) (data_in old) (data_in new)
+abbrev pub Tells : {T : Type 0} → Selectors → Bool → List Event → StartTag → ℕ → Answered T → List MatchInfo → Allowance → Vm (OpenElement T) → Vm (OpenElement T) → Limiter → Type 0
+Tells s esi events tag number (Reported opened) matched a old new limiter = IsToldAs s esi events tag false number opened matched a old new limiter
+Tells s esi events tag number (Asked request) matched a old new limiter = IsAskedFor s esi events tag a new limiter request × (data_in new ≡ data_in old)
 
 -- This holds of each start tag of a name and a namespace, after whatever events a machine runs over.
 abbrev pub ForTag : {E : Type 0} → Vm E → Limiter → List ℕ → Namespace → (Selectors → Bool → List Event → StartTag → Type 0) → Type 0
@@ -125,7 +92,7 @@ abbrev pub ForHandedTag : {E : Type 0} → Vm E → Limiter → List ℕ → Nam
 ForHandedTag vm limiter name ns aux holds = ForTag vm limiter name ns (λ s esi events tag. IsRestOf aux tag → holds s esi events tag)
 
 -- This holds of each start tag that a request is made for and that has these attributes, after whatever events a machine ran over before it.
-abbrev pub ForRequest : {T : Type 0} → Vm (Kept T) → Limiter → AuxStartTagInfoRequest (Kept T) → AuxStartTagInfo → (Selectors → Bool → List Event → StartTag → Type 0) → Type 0
+abbrev pub ForRequest : {T : Type 0} → Vm (OpenElement T) → Limiter → AuxStartTagInfoRequest (OpenElement T) → AuxStartTagInfo → (Selectors → Bool → List Event → StartTag → Type 0) → Type 0
 ForRequest vm limiter request aux holds =
     (s : Selectors) (esi : Bool) (events : List Event) (tag : StartTag)
     → RunsPast s esi events vm limiter → IsPending ids_of s esi events tag vm request → IsRestOf aux tag → holds s esi events tag
@@ -142,24 +109,35 @@ pub record KeepsRunning {E : Type 0} (old new : Vm E) : Type 0 where
   pub slots : slots_charged new ≡ slots_charged old
   pub bytes : slot_bytes new ≡ slot_bytes old
 
--- The last open element has no value, where more elements are open than before.
-pub record ClearsOpened {T : Type 0} (before : ℕ) (more : Bool) (old new : Vm (Kept T)) : Type 0 where
+-- The last open element has this number and no value, where more elements are open than before.
+pub record NumbersOpened {T : Type 0} (before number : ℕ) (more : Bool) (old new : Vm (OpenElement T)) : Type 0 where
   pub opened : IsTrue more ↔ (before < length (data_in old))
-  pub kept : data_in new ≡ (if more then with_value None (data_in old) else data_in old)
+  pub kept : data_in new ≡ (if more then with_last_number number (data_in old) else data_in old)
   pub running : KeepsRunning old new
 
+-- how many tags were told, with one that waits
+abbrev pub count_with : {R : Type 0} → Option R → ℕ → ℕ
+count_with None count = count
+count_with (Some request) count = in_word (count + 1)
+
 -- A request waits exactly where a tag does: for each tag of its name and namespace, whatever its rest is.
-abbrev pub Waits : {T : Type 0} → Selectors → Bool → List Event → Option (List ℕ × Namespace) → Vm (Kept T) → Option (AuxStartTagInfoRequest (Kept T)) → Type 0
+abbrev pub Waits : {T : Type 0} → Selectors → Bool → List Event → Option (List ℕ × Namespace) → Vm (OpenElement T) → Option (AuxStartTagInfoRequest (OpenElement T)) → Type 0
 Waits s esi events None vm None = Unit {0}
 Waits s esi events None vm (Some request) = ⊥
 Waits s esi events (Some asked) vm None = ⊥
 Waits s esi events (Some asked) vm (Some request) = (tag : StartTag) → tag.name ≡ asked.0 → tag.namespace ≡ asked.1 → IsPending ids_of s esi events tag vm request
 
--- What holds between a matcher's parts: the limiter is charged for the machine alone, which has the open elements. Until a tag is
--- refused the machine runs over what was heard, with a request where a tag waits, and these elements are open.
-pub record Keeps {T : Type 0} (history : History) (failed : Bool) (vm : Vm (Kept T)) (request : Option (AuxStartTagInfoRequest (Kept T))) (limiter : Limiter) : Type 0 where
+-- What holds between a matcher's parts: the limiter is charged for the machine alone, which has the open elements, each with its number. Until a
+-- tag is refused the machine runs over what was heard, with a request where a tag waits, these elements are open, there is room for each report,
+-- the tags but for one that waits are counted, and the last of them was answered so.
+pub record Keeps {T : Type 0} (history : History) (failed : Bool) (vm : Vm (OpenElement T)) (request : Option (AuxStartTagInfoRequest (OpenElement T))) (matches : Vec MatchInfo Global) (limiter : Limiter) (count : ℕ) (opened : Bool) : Type 0 where
   pub charged : IsCharged vm limiter
   pub has_open : HasOpen vm history.open_elements
+  pub numbered : map (λ element. element.number) (data_in vm) ≡ numbers_open history.open_elements
   pub runs : failed ≡ false → Runs (selectors history.told.ast) history.told.esi (heard history.told) vm limiter
   pub waits : failed ≡ false → Waits (selectors history.told.ast) history.told.esi history.told.events history.told.asked vm request
   pub told_open : failed ≡ false → history.open_elements ≡ elements_of history.told
+  pub room : failed ≡ false → HoldsEachReport (selectors history.told.ast) (vec_capacity matches)
+  pub counted : failed ≡ false → count ≡ in_word (length history.told.events)
+  pub last : failed ≡ false → IsLast (selectors history.told.ast) history.told matches.items (tries_in vm) opened
+  pub silent : failed ≡ true → matches.items ≡ []

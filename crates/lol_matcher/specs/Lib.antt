@@ -1,6 +1,10 @@
 pub mod Told
+pub mod Last
+pub mod LastLaws
 pub mod Noted
 pub mod Refusing
 pub mod Keeping
 pub mod Answering
 pub mod Building
+pub mod Explaining
+pub mod ExplainingLaws

@@ -1,35 +1,39 @@
 //! What a machine answers to a start tag whose attributes are at hand.
 
-ghost use Rattle.std.specs.Prelude.{◌≡◌, OnErr, IfOk, IfErr};
+ghost use Rattle.std.specs.Prelude.{◌≡◌, OnOk, OnErr, IfOk, IfErr, vec_capacity};
 ghost use Rattle.lol_base.specs.StartTags.{RangesAreInside};
-ghost use Rattle.lol_matcher.specs.Keeping.{ForHandedTag, ForTag, IsCharged, IsHanded, allowed};
+ghost use Rattle.lol_matcher.specs.Keeping.{ForHandedTag, ForTag, IsCharged, IsToldAs, allowed};
 ghost use Rattle.lol_matcher.specs.Refusing.{IsRefusedFor, refusal_after};
 ghost use Rattle.lol_vm.specs.Answers.{document};
-ghost use Rattle.lol_vm.specs.Collecting.{Collects};
 ghost use Rattle.lol_vm.specs.FreeTags.{AreFlat};
-ghost use Rattle.lol_vm.specs.Vms.{HasOpen, IsTriedAtMost, data_in, slot_bytes, tries_in, NeedsRest};
+ghost use Rattle.lol_vm.specs.ReportRoom.{HoldsEachReport, TakesInRoom};
+ghost use Rattle.lol_vm.specs.Vms.{HasOpen, IsTriedAtMost, data_in, is_asked_for, slot_bytes, tries_in, NeedsRest};
 
 use crate::error::MatcherError;
 use crate::laws::run_laws;
-use crate::tags::{Finished, Kept, clear_opened};
+use crate::open_element::OpenElement;
+use crate::tags::number_opened;
 use lol_base::{AuxStartTagInfo, LocalName, Namespace};
 use lol_memory::{MatchInfo, SharedMemoryLimiter};
-use lol_vm::{Collected, SelectorMatchingVm, StartTagError};
+use lol_vm::{SelectorMatchingVm, StartTagError};
 
-/// Tells the machine of a start tag whose attributes are at hand, and keeps what it is reported under.
+/// Tells the machine of a start tag whose attributes are at hand, and keeps what it is reported under: whether its element was opened.
 pub(crate) fn hand_tag<T: Drop>(
-    vm: &mut SelectorMatchingVm<Kept<T>>,
+    vm: &mut SelectorMatchingVm<OpenElement<T>>,
     limiter: &mut SharedMemoryLimiter,
     name: &[u8],
     ns: Namespace,
     aux_info: AuxStartTagInfo<'_>,
-    matches: &mut Collected<MatchInfo>,
-) -> Result<Finished, MatcherError>
+    number: usize,
+    matches: &mut Vec<MatchInfo>,
+) -> Result<bool, MatcherError>
     requires { RangesAreInside aux_info }
-    ensures told { IfOk result (λ finished.
+    ensures told { IfOk result (λ opened.
         ForHandedTag vm.old limiter.old name.now ns aux_info.entry (λ s esi events tag.
-        IsHanded s esi events tag finished matches.new.items.items (allowed vm.old limiter.old)
-        vm.old vm.new limiter.new)) }
+        HoldsEachReport s (vec_capacity matches.old) → IsToldAs s esi events tag (is_asked_for s esi events tag)
+        number opened matches.new.items (allowed vm.old limiter.old) vm.old vm.new limiter.new)) }
+    ensures room { OnOk result (ForHandedTag vm.old limiter.old name.now ns aux_info.entry (λ s esi events tag.
+        HoldsEachReport s (vec_capacity matches.old) → HoldsEachReport s (vec_capacity matches.new))) }
     ensures refused { IfErr result (λ error.
         ForHandedTag vm.old limiter.old name.now ns aux_info.entry (λ s esi events tag.
         IsRefusedFor error (AreFlat s) (refusal_after s esi (allowed vm.old limiter.old) events tag))) }
@@ -43,23 +47,19 @@ pub(crate) fn hand_tag<T: Drop>(
     ensures bytes { slot_bytes vm.new ≡ slot_bytes vm.old }
     ensures maximum { limiter.new.maximum ≡ limiter.old.maximum }
 {
-    run_laws::<Kept<T>>();
+    run_laws::<OpenElement<T>>();
     matches.clear();
     let open_before = vm.open_elements();
     let mut handler = |info: MatchInfo|
-        ensures { Collects matches.entry.now info matches.exit.now }
+        ensures { TakesInRoom matches.entry.now info matches.exit.now }
     {
-        matches.keep(info);
+        if matches.len() < matches.capacity() {
+            matches.push_reserved(info);
+        }
     };
     let local_name = LocalName::new(name);
     match vm.exec_for_whole_start_tag(local_name, ns, aux_info, limiter, &mut handler) {
-        Ok(_asked) => {
-            let opened = clear_opened(vm, open_before);
-            if matches.refused {
-                return Ok(Finished::Unreported);
-            }
-            Ok(Finished::Reported(opened))
-        }
+        Ok(_asked) => Ok(number_opened(vm, open_before, number)),
         Err(StartTagError::MemoryLimitExceeded) => Err(MatcherError::MemoryLimitExceeded),
         Err(StartTagError::CounterFull) => Err(MatcherError::CounterFull),
         Err(StartTagError::Memory) => Err(MatcherError::Memory),

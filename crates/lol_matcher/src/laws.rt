@@ -1,14 +1,18 @@
 //! Laws, each the contract of a function that takes and gives nothing.
 
+ghost use Rattle.lol_vm.specs.ReportRoom.{ReportsAreFew};
 ghost use Rattle.lol_vm.specs.Standing.{DocumentsAreOrdered};
 ghost use Rattle.lol_vm.specs.VmLaws.{DataChangeNothing, DataKeepOpen, DataKeepRequests, LastDataAreLent, LastDataChange, PendingStands, SlotsAreOfDepth, StandingCounts, StandingHasOpen};
+ghost use Rattle.lol_reasons.specs.NumberingLaws.{NumbersNameWhatMatches};
+ghost use Rattle.lol_reasons.specs.ReasonLaws.{EachHasOneReason};
 ghost use Rattle.lol_laws.specs.AskedRuns.{AskedRunsAnswerAlike, ToldGoesOn};
 
 use lol_laws::run_laws::asked_runs_answer_alike;
+use lol_reasons::laws::{numbers_name_what_matches, reasons_explain_reports};
 use lol_vm::machine_laws::documents_are_ordered;
 use lol_vm::vm_laws::{
-    data_change_nothing, dropped_requests_stand, last_data_are_lent, slots_are_of_depth,
-    standing_counts, standing_has_open,
+    data_change_nothing, dropped_requests_stand, last_data_are_lent, reports_are_few,
+    slots_are_of_depth, standing_counts, standing_has_open,
 };
 
 /// A matcher that is told of each tag of a list, and of the attributes of a start tag if it asks for them, answers as a run over that list
@@ -27,12 +31,14 @@ pub(crate) fn run_laws<E>()
     ensures ordered { DocumentsAreOrdered }
     ensures dropped { PendingStands E }
     ensures has_open { StandingHasOpen E }
+    ensures few { ReportsAreFew E }
 {
     slots_are_of_depth::<E>();
     standing_counts::<E>();
     documents_are_ordered();
     dropped_requests_stand::<E>();
     standing_has_open::<E>();
+    reports_are_few::<E>();
 }
 
 /// What changes where the data of the last open element do.
@@ -45,4 +51,13 @@ pub(crate) fn data_laws<E>()
 {
     data_change_nothing::<E>();
     last_data_are_lent::<E>();
+}
+
+/// What the numbers of items lead to.
+pub(crate) fn item_laws()
+    ensures named { NumbersNameWhatMatches }
+    ensures one { EachHasOneReason }
+{
+    numbers_name_what_matches();
+    reasons_explain_reports();
 }

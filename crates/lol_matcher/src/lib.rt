@@ -3,9 +3,11 @@
 
 mod builder;
 mod error;
+mod explaining;
 mod handed;
 pub mod laws;
 mod matcher;
+mod open_element;
 mod past;
 mod reading;
 mod tags;
@@ -18,6 +20,7 @@ pub use lol_base::{
 pub use lol_css::{ErrorLocation, ErrorMessage, SelectorError};
 pub use lol_memory::{MatchId, MatchInfo};
 pub use lol_program::{ROWS_PAY_FROM, Tries};
-pub use lol_stack::ElementValue;
+pub use lol_reasons::{Explainer, ItemOfText, Numbering, NumberingError, Reason, Texts};
 pub use matcher::{Matcher, Started};
+pub use open_element::{OpenElement, OpenElements};
 pub use reading::read_selector;

@@ -2,17 +2,17 @@
 
 use crate::builder::MatcherBuilder;
 use crate::error::MatcherError;
+use crate::explaining::{item_numbers, numbers_around, report_of};
 use crate::handed::hand_tag;
-use crate::laws::run_laws;
+use crate::laws::{item_laws, run_laws};
+use crate::open_element::{OpenElement, OpenElements};
 use crate::past::{Note, Past};
-use crate::tags::{
-    Answered, Finished, Kept, drop_request, end_tag, finish_tag, replace_value, start_tag,
-};
+use crate::tags::{Answered, drop_request, end_tag, finish_tag, replace_value, start_tag};
 use lol_base::{AuxStartTagInfo, Namespace};
 use lol_memory::{MatchInfo, SharedMemoryLimiter};
 use lol_program::{Ast, Tries};
-use lol_stack::ElementValue;
-use lol_vm::{AuxStartTagInfoRequest, Collected, SelectorMatchingVm};
+use lol_reasons::{Explainer, Reason};
+use lol_vm::{AuxStartTagInfoRequest, SelectorMatchingVm};
 use std::alloc::{AllocError, Global};
 use std::marker::Model;
 
@@ -29,10 +29,12 @@ pub enum Started {
 /// Matches selectors against the start tags of a document, as its tags come. It owns its machine, and is dropped as any value. Each open
 /// element may have a value of the caller's own, of the type `T`.
 pub struct Matcher<T = ()> {
-    vm: SelectorMatchingVm<Kept<T>>,
+    vm: SelectorMatchingVm<OpenElement<T>>,
     limiter: SharedMemoryLimiter,
-    request: Option<AuxStartTagInfoRequest<Kept<T>>>,
-    matches: Collected<MatchInfo>,
+    request: Option<AuxStartTagInfoRequest<OpenElement<T>>>,
+    matches: Vec<MatchInfo>,
+    // The tag that waits isn't counted.
+    tags_told: usize,
     opened: bool,
     failed: bool,
     past: Past,
@@ -55,14 +57,14 @@ impl<T> Model for Matcher<T> {
       max_memory = m.limiter.maximum;
       element_bytes = slot_bytes m.vm;
       failed = m.failed;
-      matched = m.matches.items.items;
+      matched = m.matches.items;
       tries = tries_in m.vm;
       opened = m.opened;
       open_elements = m.past.history.open_elements;
       kept = data_in m.vm;
     } };
 
-    ghost invariant = { λ m. Keeps m.past.history m.failed m.vm m.request m.limiter };
+    ghost invariant = { λ m. Keeps m.past.history m.failed m.vm m.request m.matches m.limiter m.tags_told m.opened };
 }
 
 impl<T: Drop> Drop for Matcher<T> {
@@ -72,6 +74,7 @@ impl<T: Drop> Drop for Matcher<T> {
             mut limiter,
             request: _,
             matches: _,
+            tags_told: _,
             opened: _,
             failed: _,
             past: _,
@@ -98,17 +101,19 @@ impl Matcher {
 }
 
 impl<T: Drop> Matcher<T> {
-    ghost use Rattle.std.specs.Prelude.{◌≡◌, ◌≤◌, ◌↔◌, true, false, None, Err, IfOk, OnOk, IfErr, IsSome, drop, length, map};
+    ghost use Rattle.std.specs.Prelude.{◌≡◌, ◌≤◌, ◌↔◌, [], true, false, None, Err, IfOk, OnOk, IfErr, IsSome, drop, length, map};
     ghost use Rattle.lol_base.specs.StartTags.{RangesAreInside, StartTag};
     ghost use Rattle.lol_instructions.specs.Tries.{names_counted, attributes_counted};
     ghost use Rattle.lol_stack.specs.Calls.{IsCalledAtEach};
-    ghost use Rattle.lol_matcher.specs.Answering.{Answers, IfWaits, IsAnsweredAfter, IsFinishedAs, LeavesOpen, OpensFor, OpensStart, last_value, reported_in, told_after, refused_with, with_ended, with_told, with_value};
+    ghost use Rattle.lol_matcher.specs.Answering.{Answers, IfWaits, IsAnsweredAfter, IsFinishedAs, OpensFor, OpensStart, last_value, reported_in, told_after, refused_with, with_ended, with_told, with_value};
     ghost use Rattle.lol_matcher.specs.Building.{Building, started_with};
+    ghost use Rattle.lol_matcher.specs.Explaining.{AreNumbered, ForTexts, ReportsFor, reasons_told, report_under};
     ghost use Rattle.lol_matcher.specs.Keeping.{IsRefusal};
-    ghost use Rattle.lol_matcher.specs.Noted.{finished_told, handed, handed_told, started_told};
+    ghost use Rattle.lol_matcher.specs.Last.{HasTries, last_answer, last_opens, matches_in};
+    ghost use Rattle.lol_matcher.specs.Noted.{finished_told, handed, handed_told};
     ghost use Rattle.lol_matcher.specs.Refusing.{Fits, RefusesStart, RefusesStartWith, RefusesFinish, refusal_of};
-    ghost use Rattle.lol_matcher.specs.Told.{elements_of, heard};
-    ghost use Rattle.lol_laws.specs.AskedRuns.{bare_tag};
+    ghost use Rattle.lol_matcher.specs.Told.{elements_of, heard, numbers_open};
+    ghost use Rattle.lol_reasons.specs.Numbered.{items_of, reason_shown};
     ghost use Rattle.lol_vm.specs.Views.{match_of, selectors};
     ghost use Rattle.lol_vm.specs.Vms.{IsTriedAtMost, Stands, data_in, open_after};
 
@@ -127,14 +132,19 @@ impl<T: Drop> Matcher<T> {
             (record { ast = ast; max_memory = max_memory; element_bytes = element_bytes; esi = enable_esi_tags })
             matcher.tries) }
     {
-        run_laws::<Kept<T>>();
+        run_laws::<OpenElement<T>>();
         let past = Past::new(&ast, &enable_esi_tags);
         let vm = SelectorMatchingVm::new(alloc, ast, element_bytes, enable_esi_tags)?;
+        let Ok(matches) = vm.list_for_reports() else {
+            vm.discard();
+            return Err(AllocError);
+        };
         Ok(Matcher {
             vm,
             limiter: SharedMemoryLimiter::new(max_memory),
             request: None,
-            matches: Collected::new(alloc),
+            matches,
+            tags_told: 0,
             opened: false,
             failed: false,
             past,
@@ -143,20 +153,25 @@ impl<T: Drop> Matcher<T> {
 
     /// What the last tag was reported under, ascending by id: nothing where it is an end tag, waits for its attributes, or was refused.
     pub fn matches(&self) -> &[MatchInfo]
-        ensures { result.now ≡ self.now.matched }
+        ensures matched { result.now ≡ self.now.matched }
+        ensures answered { self.now.failed ≡ false → map match_of result.now
+            ≡ matches_in (last_answer (selectors self.now.told.ast) self.now.told) }
+        ensures none { self.now.failed ≡ true → result.now ≡ [] }
     {
-        &self.matches.items
+        &self.matches
     }
 
     /// How many nodes were tried for the last start tag that wasn't answered `Failed`, its finishing included.
     pub fn tries(&self) -> Tries
-        ensures { result ≡ self.now.tries }
+        ensures tries { result ≡ self.now.tries }
+        ensures answered { self.now.failed ≡ false
+            → HasTries (last_answer (selectors self.now.told.ast) self.now.told) result }
     {
         self.vm.tries()
     }
 
     /// The machine, to be looked at: until a tag is refused it stands for what was told, a start tag that waits as dropped.
-    pub fn machine(&self) -> &SelectorMatchingVm<ElementValue<Option<T>>>
+    pub fn machine(&self) -> &SelectorMatchingVm<OpenElement<T>>
         ensures stands { self.now.failed ≡ false
             → Stands (selectors self.now.told.ast) self.now.told.esi result.now (heard self.now.told) }
         ensures kept { data_in result.now ≡ self.now.kept }
@@ -173,9 +188,56 @@ impl<T: Drop> Matcher<T> {
 
     /// Whether the last tag was a start tag that was reported, and opened its element: it has content, so that an end tag may come.
     pub fn has_opened(&self) -> bool
-        ensures { result ≡ self.now.opened }
+        ensures opened { result ≡ self.now.opened }
+        ensures answered { self.now.failed ≡ false
+            → result ≡ last_opens (selectors self.now.told.ast) self.now.told }
     {
         self.opened
+    }
+
+    /// What is kept of the open elements, the outermost first. After `Reported` the last of them is the tag's own if `has_opened`.
+    pub fn open_elements(&self) -> OpenElements<'_, T>
+        ensures kept { result ≡ self.now.kept }
+        ensures numbered { map (λ element. element.number) result ≡ numbers_open self.now.open_elements }
+    {
+        OpenElements::new(self.vm.open_items())
+    }
+
+    /// Why the last tag was reported, if the selectors are the items of texts, each under its number (`Texts::number_items`): a reason for each
+    /// item that matches its element, in the order of adding. There is none where it is an end tag, waits for its attributes, or was refused.
+    /// A witness has the numbers of start tags, as `OpenElement` has.
+    ///
+    /// # Errors
+    /// Out of memory, which it takes for the answer and for two lists. Nothing changes, so it may be asked for again.
+    pub fn explain(&self, alloc: Global, explainer: &Explainer) -> Result<Vec<Reason>, AllocError>
+        ensures reasons { IfOk result (λ reasons. ForTexts explainer.now self.now (λ texts. AreNumbered self.now.told
+            → map reason_shown reasons.items ≡ reasons_told texts self.now.told)) }
+        ensures none { IfOk result (λ reasons. self.now.failed ≡ true → reasons.items ≡ []) }
+    {
+        item_laws();
+        let matches = self.matches.as_slice();
+        if matches.is_empty() {
+            return Ok(Vec::new(alloc));
+        }
+        run_laws::<OpenElement<T>>();
+        let matched = item_numbers(alloc, matches)?;
+        let around = numbers_around(alloc, self.vm.open_items(), self.opened)?;
+        let number = self.tags_told.saturating_sub(1);
+        explainer.reasons(&self.vm, &matched, number, &around)
+    }
+
+    /// What the last tag was reported under, by the ids of the texts whose items are the selectors (`explain`).
+    ///
+    /// # Errors
+    /// Out of memory, which it takes for the answer and for a set of ids. Nothing changes, so it may be asked for again.
+    pub fn report(&self, alloc: Global, explainer: &Explainer) -> Result<Vec<MatchInfo>, AllocError>
+        ensures reported { IfOk result (λ report. ForTexts explainer.now self.now (λ texts.
+            ReportsFor self.now.opened (reasons_told texts self.now.told) report.items)) }
+        ensures plain { IfOk result (λ report. report.items
+            ≡ report_under (items_of explainer.now) self.now.opened self.now.matched) }
+    {
+        item_laws();
+        report_of(alloc, explainer, self.matches.as_slice(), self.opened)
     }
 
     /// A start tag: it is reported, or its attributes are asked for. A start tag that waits for its attributes is dropped.
@@ -195,8 +257,6 @@ impl<T: Drop> Matcher<T> {
             → RefusesStart error self.old name.now ns) }
         ensures after { IfErr result (λ error. self.old.failed ≡ false
             → self.new ≡ refused_with self.old self.new) }
-        ensures left { IfErr result (λ error. self.old.failed ≡ false
-            → LeavesOpen error (started_told self.old.told name.now ns) (bare_tag name.now ns) self.old self.new) }
         ensures tried { self.old.failed ≡ false
             → (tag : StartTag) → tag.name ≡ name.now → tag.namespace ≡ ns
             → IsTriedAtMost (selectors self.old.told.ast) self.old.told.esi (heard self.old.told) tag self.new.tries }
@@ -204,11 +264,19 @@ impl<T: Drop> Matcher<T> {
         if self.failed {
             return Err(MatcherError::Failed);
         }
-        run_laws::<Kept<T>>();
-        drop_request(&mut self.request);
-        match start_tag(&mut self.vm, &mut self.limiter, name, ns, &mut self.matches) {
+        run_laws::<OpenElement<T>>();
+        drop_request(&mut self.request, &mut self.tags_told);
+        match start_tag(
+            &mut self.vm,
+            &mut self.limiter,
+            name,
+            ns,
+            self.tags_told,
+            &mut self.matches,
+        ) {
             Ok(Answered::Reported(opened)) => {
                 self.opened = opened;
+                self.tags_told = self.tags_told.saturating_add(1);
                 self.past = self.past.then(&Note::Started(name, ns));
                 Ok(Started::Reported)
             }
@@ -218,13 +286,6 @@ impl<T: Drop> Matcher<T> {
                 self.matches.clear();
                 self.past = self.past.then(&Note::Asked(name, ns));
                 Ok(Started::NeedsAttributes)
-            }
-            Ok(Answered::Unreported) => {
-                self.failed = true;
-                self.opened = false;
-                self.matches.clear();
-                self.past = self.past.then(&Note::StartedUnreported(name, ns));
-                Err(MatcherError::Memory)
             }
             Err(error) => {
                 self.failed = true;
@@ -244,7 +305,8 @@ impl<T: Drop> Matcher<T> {
     pub fn finish(&mut self, aux_info: AuxStartTagInfo<'_>) -> Result<(), MatcherError>
         ensures reported { OnOk result (IfWaits self.old.told aux_info.entry (λ tag.
             IsFinishedAs self.old.told tag self.new)) }
-        ensures opens { OnOk result (IfWaits self.old.told aux_info.entry (λ tag. OpensFor tag self.old self.new)) }
+        ensures opens { OnOk result (IfWaits self.old.told aux_info.entry (λ tag.
+            OpensFor self.old.told.events tag self.old self.new)) }
         ensures ok { OnOk result (self.new
             ≡ with_told (finished_told self.old.told aux_info.entry) self.old self.new) }
         ensures fits { OnOk result (IfWaits self.old.told aux_info.entry (λ tag.
@@ -259,8 +321,6 @@ impl<T: Drop> Matcher<T> {
         ensures refused { IfErr result (λ error. IsRefusal error → IfWaits self.old.told aux_info.entry (λ tag.
             RefusesFinish error self.old tag)) }
         ensures after { IfErr result (λ error. IsRefusal error → self.new ≡ refused_with self.old self.new) }
-        ensures left { IfErr result (λ error. IsRefusal error → IfWaits self.old.told aux_info.entry (λ tag.
-            LeavesOpen error (finished_told self.old.told aux_info.entry) tag self.old self.new)) }
         ensures tried { IfErr result (λ error. IsRefusal error → IfWaits self.old.told aux_info.entry (λ tag.
             IsTriedAtMost (selectors self.old.told.ast) self.old.told.esi self.old.told.events tag self.new.tries)) }
         ensures unchanged { IfErr result (λ error. (IsRefusal error → ⊥) → self.new ≡ self.old) }
@@ -274,25 +334,20 @@ impl<T: Drop> Matcher<T> {
         let Some(request) = self.request.take() else {
             return Err(MatcherError::NotAsked);
         };
-        run_laws::<Kept<T>>();
+        run_laws::<OpenElement<T>>();
         match finish_tag(
             &mut self.vm,
             &mut self.limiter,
             request,
             aux_info,
+            self.tags_told,
             &mut self.matches,
         ) {
-            Ok(Finished::Reported(opened)) => {
+            Ok(opened) => {
                 self.opened = opened;
+                self.tags_told = self.tags_told.saturating_add(1);
                 self.past = self.past.then(&Note::Finished(aux_info));
                 Ok(())
-            }
-            Ok(Finished::Unreported) => {
-                self.failed = true;
-                self.opened = false;
-                self.matches.clear();
-                self.past = self.past.then(&Note::FinishedUnreported(aux_info));
-                Err(MatcherError::Memory)
             }
             Err(error) => {
                 self.failed = true;
@@ -317,7 +372,8 @@ impl<T: Drop> Matcher<T> {
         ensures reported { OnOk result (map match_of self.new.matched
             ≡ reported_in self.old.told (handed name.now ns aux_info.entry)) }
         ensures answered { OnOk result (IsAnsweredAfter self.old.told (handed name.now ns aux_info.entry) self.new) }
-        ensures opens { OnOk result (OpensFor (handed name.now ns aux_info.entry) self.old self.new) }
+        ensures opens { OnOk result (OpensFor (heard self.old.told) (handed name.now ns aux_info.entry)
+            self.old self.new) }
         ensures ok { OnOk result (self.new
             ≡ with_told (handed_told self.old.told (handed name.now ns aux_info.entry)) self.old self.new) }
         ensures fits { OnOk result (refusal_of self.old (heard self.old.told) (handed name.now ns aux_info.entry)
@@ -330,9 +386,6 @@ impl<T: Drop> Matcher<T> {
         ensures refused { IfErr result (λ error.
             IsRefusal error → RefusesStartWith error self.old (handed name.now ns aux_info.entry)) }
         ensures after { IfErr result (λ error. IsRefusal error → self.new ≡ refused_with self.old self.new) }
-        ensures left { IfErr result (λ error. IsRefusal error → LeavesOpen error
-            (handed_told self.old.told (handed name.now ns aux_info.entry)) (handed name.now ns aux_info.entry)
-            self.old self.new) }
         ensures tried { IfErr result (λ error.
             IsRefusal error → IsTriedAtMost (selectors self.old.told.ast) self.old.told.esi
             (heard self.old.told) (handed name.now ns aux_info.entry) self.new.tries) }
@@ -344,27 +397,22 @@ impl<T: Drop> Matcher<T> {
         if !aux_info.ranges_inside() {
             return Err(MatcherError::OutsideInput);
         }
-        run_laws::<Kept<T>>();
-        drop_request(&mut self.request);
+        run_laws::<OpenElement<T>>();
+        drop_request(&mut self.request, &mut self.tags_told);
         match hand_tag(
             &mut self.vm,
             &mut self.limiter,
             name,
             ns,
             aux_info,
+            self.tags_told,
             &mut self.matches,
         ) {
-            Ok(Finished::Reported(opened)) => {
+            Ok(opened) => {
                 self.opened = opened;
+                self.tags_told = self.tags_told.saturating_add(1);
                 self.past = self.past.then(&Note::Handed(name, ns, aux_info));
                 Ok(())
-            }
-            Ok(Finished::Unreported) => {
-                self.failed = true;
-                self.opened = false;
-                self.matches.clear();
-                self.past = self.past.then(&Note::HandedUnreported(name, ns, aux_info));
-                Err(MatcherError::Memory)
             }
             Err(error) => {
                 self.failed = true;
@@ -390,11 +438,11 @@ impl<T: Drop> Matcher<T> {
         ensures ended { self.new ≡ with_ended self.old name.now }
         ensures open { self.old.failed ≡ false → self.new.open_elements ≡ elements_of self.new.told }
     {
-        self.end_with(name, &mut |_element: ElementValue<Option<T>>| {});
+        self.end_with(name, &mut |_element: OpenElement<T>| {});
     }
 
     /// The same, and the handler is called with what was kept of each closed element, the outermost first.
-    pub fn end_with<F: FnMut(ElementValue<Option<T>>)>(&mut self, name: &[u8], handler: &mut F)
+    pub fn end_with<F: FnMut(OpenElement<T>)>(&mut self, name: &[u8], handler: &mut F)
         requires { F.IsAlwaysCallable handler.old }
         ensures again { F.IsAlwaysCallable handler.new }
         ensures ended { self.new ≡ with_ended self.old name.now }
@@ -402,10 +450,11 @@ impl<T: Drop> Matcher<T> {
             (drop (length (open_after name.now self.old.open_elements)) self.old.kept) handler.new }
         ensures open { self.old.failed ≡ false → self.new.open_elements ≡ elements_of self.new.told }
     {
-        drop_request(&mut self.request);
+        drop_request(&mut self.request, &mut self.tags_told);
         self.opened = false;
         self.matches.clear();
         end_tag(&mut self.vm, name, handler);
+        self.tags_told = self.tags_told.saturating_add(1);
         self.past = self.past.then(&Note::Ended(name));
     }
 }

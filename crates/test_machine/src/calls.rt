@@ -1,7 +1,7 @@
 //! An explaining matcher, once through each call: one that refuses always meets its contract.
 
 use crate::pages::{builder_of, is_reason};
-use lol_explaining_matcher::{ElementValue, ExplainingMatcher, Namespace, Reason};
+use lol_explaining_matcher::{ExplainingMatcher, Namespace, OpenElement, Reason};
 use std::alloc::Global;
 use std::test::Fail;
 
@@ -34,7 +34,7 @@ fn close(matcher: &mut ExplainingMatcher<u64>, name: &[u8]) -> u64 {
     let mut sum = 0u64;
     matcher.end_with(
         name,
-        &mut |element: ElementValue<Option<u64>>| {
+        &mut |element: OpenElement<u64>| {
             sum = sum.saturating_add(element.value.unwrap_or(100));
         },
     );

@@ -1,7 +1,7 @@
 //! A matcher on small pages, once through each call: one that refuses always meets its contract; and the texts of its errors.
 
 use lol_matcher::{
-    AddError, ElementValue, ErrorLocation, Matcher, MatcherBuilder, MatcherError, Namespace,
+    AddError, ErrorLocation, Matcher, MatcherBuilder, MatcherError, Namespace, OpenElement,
     SelectorError, Started,
 };
 use std::alloc::{AllocError, Global};
@@ -57,8 +57,12 @@ impl HandedOut {
         }
     }
 
-    fn keep(&mut self, element: ElementValue<Option<u64>>) {
-        let ElementValue { matched_ids, value } = element;
+    fn keep(&mut self, element: OpenElement<u64>) {
+        let OpenElement {
+            matched_ids,
+            number: _,
+            value,
+        } = element;
         let _ = self.values.push(value);
         for id in matched_ids.iter() {
             let _ = self.ids.push(id);

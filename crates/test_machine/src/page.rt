@@ -1,6 +1,6 @@
 //! The caller of the crate's page that keeps values, as it is written there: one that isn't accepted by the compiler would stay on the page.
 
-use lol_matcher::{ElementValue, Matcher, Namespace, Started};
+use lol_matcher::{Matcher, Namespace, OpenElement, Started};
 use std::process::Abort;
 use std::test::Fail;
 
@@ -11,9 +11,10 @@ struct HandedOut {
 }
 
 impl HandedOut {
-    fn keep(&mut self, element: ElementValue<Option<u64>>) {
-        let ElementValue {
+    fn keep(&mut self, element: OpenElement<u64>) {
+        let OpenElement {
             value,
+            number: _,
             matched_ids: _,
         } = element;
         let _ = self.values.push(value);

@@ -2,10 +2,10 @@
 use Rattle.std.proofs.Common.{arith, ◌≡◌, ◌<◌, ◌≤◌, ◌+◌, ℕ, zero, suc, List, [], ◌∷◌, ◌++◌, length, take, refl, ap}
 use Rattle.std.specs.Prelude.{Option, min}
 use Rattle.std.proofs.lemmas.List.{length-append}
-use Rattle.lol_stack.specs.declared.element_value.ElementValue.{ElementValue}
+use Rattle.lol_matcher.specs.declared.open_element.OpenElement.{OpenElement}
 
 -- it is counted
-pub counts_one : (elements : List (ElementValue (Option ℕ))) (element : ElementValue (Option ℕ)) (closed kept counted : ℕ)
+pub counts_one : (elements : List (OpenElement ℕ)) (element : OpenElement ℕ) (closed kept counted : ℕ)
     → closed ≡ min (length elements) 18446744073709551615 → kept ≡ closed → counted ≡ min (kept + 1) 18446744073709551615
     → counted ≡ min (length (elements ++ element ∷ [])) 18446744073709551615
 counts_one elements element closed kept counted was same is = let more = length-append elements (element ∷ []) in grind arith

@@ -2,9 +2,10 @@
 use Rattle.std.specs.Prelude.{ℕ, ◌-◌, ◌^◌, ◌≡◌, ◌≢◌, Bool, true, false, List, [], length, map, min, None, Some, IsSomeAnd, if◌then◌else◌}
 use Rattle.lol_base.specs.StartTags.{StartTag}
 use Rattle.lol_base.specs.declared.namespace.Namespace.{Namespace}
-use Rattle.lol_explaining_matcher.specs.Explaining.{Explaining, ReportsFor, reasons_told, with_end, with_last}
+use Rattle.lol_explaining_matcher.specs.Explaining.{Explaining, LeavesOpen, with_end, with_last}
+use Rattle.lol_matcher.specs.Explaining.{ReportsFor, reasons_told}
 use Rattle.lol_explaining_matcher.specs.Preparing.{AddsText, Preparing}
-use Rattle.lol_matcher.specs.Answering.{Answers, IsFinishedAs, LeavesOpen, OpensFor, OpensStart, told_after, with_told}
+use Rattle.lol_matcher.specs.Answering.{Answers, IsFinishedAs, OpensFor, OpensStart, told_after, with_told}
 use Rattle.lol_matcher.specs.Noted.{started_told}
 use Rattle.lol_matcher.specs.Refusing.{Fits, RefusesFinish, RefusesStart, refusal_of}
 use Rattle.lol_matcher.specs.declared.error.MatcherError.{MatcherError}
@@ -83,7 +84,7 @@ pub record StartsExplained (status : ℕ) (name : List ℕ) (namespace matched :
 pub record IsFinishedExplained (old : Explaining ℕ) (tag : StartTag) (new : Explaining ℕ) : Type 0 where
   pub running : (old.failed ≡ false) × (new.failed ≡ false)
   pub reported : IsFinishedAs old.items.told tag new.items
-  pub opens : OpensFor tag old.items new.items
+  pub opens : OpensFor old.items.told.events tag old.items new.items
   pub told : new.items ≡ with_told (given_told old.items.told tag) old.items new.items
   pub fits : refusal_of old.items old.items.told.events tag ≡ None
 

@@ -1,7 +1,8 @@
 -- Reasons as C gets them.
 use Rattle.std.specs.Prelude.{ℕ, ◌+◌, ◌≡◌, true, false, List, [], ◌∷◌, length, map, reverse}
 use Rattle.std.specs.List.{flat_map}
-use Rattle.lol_explaining_matcher.specs.Explaining.{AreNumbered, Explaining, reasons_told}
+use Rattle.lol_explaining_matcher.specs.Explaining.{Explaining}
+use Rattle.lol_matcher.specs.Explaining.{AreNumbered, reasons_told}
 use Rattle.lol_reasons.specs.Explanations.{Reason}
 use Rattle.lol_reasons.specs.Numbered.{texts_in}
 use Rattle.lol_script.specs.Output as script

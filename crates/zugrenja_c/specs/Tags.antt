@@ -3,16 +3,14 @@ use Rattle.std.specs.Prelude.{Option, ◌-◌, ◌^◌, min, ℕ, take, drop, ve
 use Rattle.lol_base.specs.StartTags.{StartTag, attribute_of, OutlineIsInside}
 use Rattle.lol_base.specs.declared.namespace.Namespace.{Namespace}
 use Rattle.lol_base.specs.declared.start_tag.AttributeOutline.{AttributeOutline}
-use Rattle.lol_laws.specs.AskedRuns.{bare_tag}
 use Rattle.lol_vm.specs.Events.{Start}
 use Rattle.lol_vm.specs.Vms.{open_after}
-use Rattle.lol_matcher.specs.Answering.{Answers, IsFinishedAs, LeavesOpen, OpensFor, OpensStart, refused_with, told_after, with_told}
-use Rattle.lol_matcher.specs.Noted.{started_told}
+use Rattle.lol_matcher.specs.Answering.{Answers, IsFinishedAs, OpensFor, OpensStart, refused_with, told_after, with_told}
 use Rattle.lol_matcher.specs.Refusing.{Fits, RefusesFinish, RefusesStart, refusal_of}
 use Rattle.lol_matcher.specs.Told.{Told, Matching}
 use Rattle.lol_matcher.specs.declared.error.MatcherError.{MatcherError}
 use Rattle.lol_matcher.specs.declared.matcher.Started.{Started}
-use Rattle.lol_stack.specs.declared.element_value.ElementValue.{ElementValue}
+use Rattle.lol_matcher.specs.declared.open_element.OpenElement.{OpenElement}
 use Rattle.zugrenja_c.specs.declared.matching.AttributePlace.{AttributePlace}
 use Rattle.zugrenja_c.specs.declared.closing.Closing.{Closing}
 
@@ -31,7 +29,6 @@ pub record IsStartRefused (error : MatcherError) (old : Matching ℕ) (name : Li
   pub running : old.failed ≡ false
   pub refused : RefusesStart error old name ns
   pub after : new ≡ refused_with old new
-  pub left : LeavesOpen error (started_told old.told name ns) (bare_tag name ns) old new
 
 -- ---- attributes
 
@@ -61,7 +58,7 @@ given_told t tag = record { ast = t.ast; esi = t.esi; events = t.events ++ Start
 pub record IsFinished (old : Matching ℕ) (tag : StartTag) (new : Matching ℕ) : Type 0 where
   pub running : old.failed ≡ false
   pub reported : IsFinishedAs old.told tag new
-  pub opens : OpensFor tag old new
+  pub opens : OpensFor old.told.events tag old new
   pub told : new ≡ with_told (given_told old.told tag) old new
   pub fits : refusal_of old old.told.events tag ≡ None
 
@@ -70,16 +67,15 @@ pub record IsFinishRefused (error : MatcherError) (old : Matching ℕ) (tag : St
   pub running : old.failed ≡ false
   pub refused : RefusesFinish error old tag
   pub after : new ≡ refused_with old new
-  pub left : LeavesOpen error (given_told old.told tag) tag old new
 
 -- ---- end tags
 
 -- the value of an element, 0 where none was given
-abbrev pub value_of : ElementValue (Option ℕ) → ℕ
+abbrev pub value_of : OpenElement ℕ → ℕ
 value_of element = unwrap_or element.value 0
 
 -- what was kept of the elements that an end tag closes, the outermost first
-abbrev pub closed_elements : Matching ℕ → List ℕ → List (ElementValue (Option ℕ))
+abbrev pub closed_elements : Matching ℕ → List ℕ → List (OpenElement ℕ)
 closed_elements m name = drop (length (open_after name m.open_elements)) m.kept
 
 -- their values
@@ -87,7 +83,7 @@ abbrev pub closed_values : Matching ℕ → List ℕ → List ℕ
 closed_values m name = map value_of (closed_elements m name)
 
 -- what is kept once these elements were closed: their values as far as there is room, and how many they are
-pub record HasClosed (room : ℕ) (elements : List (ElementValue (Option ℕ))) (closing : Closing) : Type 0 where
+pub record HasClosed (room : ℕ) (elements : List (OpenElement ℕ)) (closing : Closing) : Type 0 where
   pub closed : closing.closed ≡ min (length elements) (2 ^ 64 - 1)
   pub reserved : vec_capacity closing.values ≡ room
   pub values : closing.values.items ≡ take room (map value_of elements)

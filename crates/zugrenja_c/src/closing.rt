@@ -1,11 +1,11 @@
 //! The values of the elements that an end tag closes.
 
 ghost use Rattle.std.specs.Prelude.{◌≡◌, ◌++◌, ◌∷◌, [], ℕ, List, Option, IfOk, length, map};
-ghost use Rattle.lol_stack.specs.declared.element_value.ElementValue.{ElementValue};
+ghost use Rattle.lol_matcher.specs.declared.open_element.OpenElement.{OpenElement};
 ghost use Rattle.zugrenja_c.specs.Numbers.{overwritten};
 ghost use Rattle.zugrenja_c.specs.Tags.{HasClosed, value_of};
 
-use lol_matcher::ElementValue;
+use lol_matcher::OpenElement;
 use std::alloc::{AllocError, Global};
 
 /// The values of closed elements, as far as there is room, and how many there are.
@@ -34,8 +34,8 @@ impl Closing {
     }
 
     /// Keeps the value of one more.
-    pub(crate) fn keep(&mut self, element: ElementValue<Option<u64>>)
-        ensures { (room : ℕ) (elements : List (ElementValue (Option ℕ))) → HasClosed room elements self.old
+    pub(crate) fn keep(&mut self, element: OpenElement<u64>)
+        ensures { (room : ℕ) (elements : List (OpenElement ℕ)) → HasClosed room elements self.old
             → HasClosed room (elements ++ element ∷ []) self.new }
     {
         if self.values.len() < self.values.capacity() {
@@ -46,7 +46,7 @@ impl Closing {
 
     /// Writes the values, as far as there is room.
     pub(crate) fn write(&self, values: &mut [u64])
-        ensures { (elements : List (ElementValue (Option ℕ))) → HasClosed (length values.old) elements self.now
+        ensures { (elements : List (OpenElement ℕ)) → HasClosed (length values.old) elements self.now
             → values.new ≡ overwritten (map value_of elements) values.old }
     {
         let fitting = self.values.len().min(values.len());

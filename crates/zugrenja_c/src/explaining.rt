@@ -1,7 +1,7 @@
 //! A session whose matcher explains.
 
 ghost use Rattle.std.specs.Prelude.{ℕ, List, Option, ◌++◌, ◌≡◌, ◌≢◌, ◌↔◌, [], ◌∷◌, None, Some, false, IfOk};
-ghost use Rattle.lol_stack.specs.declared.element_value.ElementValue.{ElementValue};
+ghost use Rattle.lol_matcher.specs.declared.open_element.OpenElement.{OpenElement};
 ghost use Rattle.lol_explaining_matcher.specs.Explaining.{with_end};
 ghost use Rattle.lol_reasons.specs.Explanations as shown;
 ghost use Rattle.zugrenja_c.specs.Explaining.{EndsExplained, FinishesExplained, GivesExplained, StartsExplained, WritesLines, WritesReasons, has_opened};
@@ -18,7 +18,7 @@ use crate::status::{
     GOOD, NEEDS_ATTRIBUTES, NO_NAMESPACE, NOT_BUILT, NOT_EXPLAINING, NOT_OPENED, OUT_OF_MEMORY,
     namespace_of, number_of,
 };
-use lol_explaining_matcher::{AuxStartTagInfo, Bytes, ElementValue, ExplainingMatcher, Started};
+use lol_explaining_matcher::{AuxStartTagInfo, Bytes, ExplainingMatcher, OpenElement, Started};
 use std::alloc::{AllocError, Global};
 
 /// Tells of a start tag.
@@ -109,8 +109,8 @@ fn close(matcher: &mut ExplainingMatcher<u64>, name: &[u8], closing: &mut Closin
     ensures closed { (room : ℕ) → HasClosed room [] closing.old
         → HasClosed room (closed_elements matcher.old.items name.now) closing.new }
 {
-    let mut handler = |element: ElementValue<Option<u64>>|
-        ensures { (room : ℕ) (elements : List (ElementValue (Option ℕ)))
+    let mut handler = |element: OpenElement<u64>|
+        ensures { (room : ℕ) (elements : List (OpenElement ℕ))
             → HasClosed room elements closing.entry.now
             → HasClosed room (elements ++ element ∷ []) closing.exit.now }
     {

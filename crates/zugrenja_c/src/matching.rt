@@ -2,7 +2,7 @@
 
 ghost use Rattle.std.specs.Prelude.{ℕ, List, Option, ◌++◌, min, ◌≡◌, ◌≢◌, ◌↔◌, [], ◌∷◌, None, Some, true, false, replicate, map, length, if◌then◌else◌, IfOk, IsSomeAnd, unwrap_or};
 ghost use Rattle.lol_instructions.specs.Tries.{names_counted, attributes_counted};
-ghost use Rattle.lol_stack.specs.declared.element_value.ElementValue.{ElementValue};
+ghost use Rattle.lol_matcher.specs.declared.open_element.OpenElement.{OpenElement};
 ghost use Rattle.lol_matcher.specs.Answering.{with_ended, with_value};
 ghost use Rattle.lol_matcher.specs.declared.error.MatcherError.TheVariants as errors;
 ghost use Rattle.lol_matcher.specs.declared.matcher.Started.TheVariants as answers;
@@ -19,7 +19,7 @@ use crate::status::{
     number_of,
 };
 use lol_matcher::{
-    AttributeBuffer, AttributeOutline, AuxStartTagInfo, Bytes, ElementValue, MatchInfo, Matcher,
+    AttributeBuffer, AttributeOutline, AuxStartTagInfo, Bytes, MatchInfo, Matcher, OpenElement,
     Range, Started,
 };
 use std::alloc::{AllocError, Global};
@@ -318,8 +318,8 @@ fn close(matcher: &mut Matcher<u64>, name: &[u8], closing: &mut Closing)
     ensures closed { (room : ℕ) → HasClosed room [] closing.old
         → HasClosed room (closed_elements matcher.old name.now) closing.new }
 {
-    let mut handler = |element: ElementValue<Option<u64>>|
-        ensures { (room : ℕ) (elements : List (ElementValue (Option ℕ)))
+    let mut handler = |element: OpenElement<u64>|
+        ensures { (room : ℕ) (elements : List (OpenElement ℕ))
             → HasClosed room elements closing.entry.now
             → HasClosed room (elements ++ element ∷ []) closing.exit.now }
     {

@@ -8,5 +8,4 @@ returns c = record {
   pairs_are_added = c.texts_add_pairs.ensures;
   reasons_give_report = c.reasons_explain_reports.ensures.report;
   each_has_one = c.reasons_explain_reports.ensures.one;
-  told_alike = c.told_tags_answer_alike.ensures;
 }

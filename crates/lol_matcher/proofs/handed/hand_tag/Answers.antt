@@ -1,68 +1,62 @@
-use Rattle.std.proofs.Common.{rules, ◌≡◌, List, Bool, Err, true, false, true≢false, refl, sym, ap, ◌∙◌, map}
+use Rattle.std.proofs.Common.{rules, ◌≡◌, ◌≤◌, List, Bool, length, vec_capacity, Err, true, false, true≢false, refl, sym, ap, subst, ◌∙◌, map}
 use Rattle.std.proofs.lemmas.Fn.{chained_keeps}
 use Rattle.lol_base.specs.LocalNames.{local_name}
 use Rattle.lol_base.specs.StartTags.{StartTag}
 use Rattle.lol_memory.specs.declared.match_info.MatchInfo.{MatchInfo}
 use Rattle.lol_program.specs.Paths.{Selectors}
 use Rattle.lol_vm.specs.Answers.{Match}
-use Rattle.lol_laws.specs.AskedRuns.{bare_tag}
 use Rattle.lol_vm.specs.Events.{Event}
-use Rattle.lol_vm.specs.Vms.{IsRestOf, info_of, is_asked_for}
+use Rattle.lol_vm.specs.Vms.{IsRestOf, info_of}
 use Rattle.lol_vm.specs.Openings.{has_room, opens_handed}
-use Rattle.lol_matcher.specs.Keeping.{Runs, allowed}
+use Rattle.lol_vm.specs.ReportRoom.{HoldsEachReport}
+use Rattle.lol_matcher.specs.Keeping.{IsToldAs, Runs, allowed}
 use Rattle.lol_matcher.proofs.Charges.{charged_after}
-use Rattle.lol_matcher.proofs.Handing.{asks_are, handed_as, handed_unreported_as}
+use Rattle.lol_matcher.proofs.Filled.{HasTaken, takes_on}
+use Rattle.lol_matcher.proofs.Handing.{fits_in, told_as}
 use Rattle.lol_matcher.proofs.Refusals.{refused_for_counter, refused_for_limit, refused_for_memory}
 use Rattle.lol_matcher.proofs.Running.{charged_for, has_no_place, has_place}
-use Rattle.lol_matcher.proofs.Telling.{WasAnswered, other_answer, tried_on, was_answered}
+use Rattle.lol_matcher.proofs.Telling.{other_answer, tried_on, was_told}
 use Rattle.lol_matcher.proofs.handed.hand_tag.Given as given
 use Rattle.lol_matcher.proofs.handed.hand_tag.Goals as goal
-use Rattle.lol_matcher.proofs.handed.hand_tag.Goals.{After-clear_opened-opened}
+use Rattle.lol_matcher.proofs.handed.hand_tag.Goals.{After-number_opened}
 
 -- a tag that was answered: one with these attributes, where they are asked for
-module _ (g : given.Over) (c : After-clear_opened-opened g) (s : Selectors) (esi : Bool) (events : List Event) (runs : Runs s esi events c.args.vm.now c.args.limiter.now) (tag : StartTag) (named : tag.name ≡ c.args.name.now) (spaced : tag.namespace ≡ c.args.ns)
+module _ (g : given.Over) (c : After-number_opened g) (s : Selectors) (esi : Bool) (events : List Event) (runs : Runs s esi events c.args.vm.now c.args.limiter.now) (tag : StartTag) (named : tag.name ≡ c.args.name.now) (spaced : tag.namespace ≡ c.args.ns)
     (when : c.in-Ok._asked ≡ true → IsRestOf c.args.aux_info tag) where
   abbrev matched : List Match
   matched = (c.in-Ok.ensures.answered s esi events tag runs.stands (c.new-local_name.ensures ∙ ap local_name (sym named), spaced) when).1.matched
 
-  answered : WasAnswered s esi events tag c.in-Ok._asked matched c.clear_opened-opened.result c.args.vm.now c.clear_opened-opened.new.vm c.args.limiter.now c.exec_for_whole_start_tag.new.limiter
-  answered =
+  told : {items : List MatchInfo} → items ≡ map info_of matched → IsToldAs s esi events tag c.in-Ok._asked c.args.number c.number_opened.result items (allowed c.args.vm.now c.args.limiter.now) c.args.vm.now c.number_opened.new.vm c.exec_for_whole_start_tag.new.limiter
+  told =
       let laws = c.run_laws.ensures in
       let call = c.exec_for_whole_start_tag.ensures in
       let charged = charged_for laws.depths laws.counts laws.ordered s esi events c.args.vm.now c.args.limiter.now runs in
       let room = has_place laws.depths laws.counts laws.ordered s esi events c.args.vm.now c.args.limiter.now runs tag (has_room c.args.vm.now runs.stands.unfailed _ call.full (other_answer c.in-Ok.is (λ same. cc))) in
-      was_answered laws.depths laws.counts laws.ordered s esi events tag charged room runs.countable (c.in-Ok.ensures.answered s esi events tag runs.stands (c.new-local_name.ensures ∙ ap local_name (sym named), spaced) when)
-      call.charges c.open_elements-open_before.ensures c.clear_opened-opened.ensures
+      was_told laws.depths laws.counts laws.ordered s esi events tag charged room runs.countable (c.in-Ok.ensures.answered s esi events tag runs.stands (c.new-local_name.ensures ∙ ap local_name (sym named), spaced) when)
+      call.charges c.open_elements-open_before.ensures c.number_opened.ensures
 
-  asks : is_asked_for s esi events tag ≡ c.in-Ok._asked
-  asks = asks_are s esi events tag _ c.in-Ok._asked _ _ (c.in-Ok.ensures.answered s esi events tag runs.stands (c.new-local_name.ensures ∙ ap local_name (sym named), spaced) when).1.answered
+  taken : HasTaken (vec_capacity c.args.matches.now) (map info_of matched) c.matches-1.given.0
+  taken =
+      let answered = c.in-Ok.ensures.answered s esi events tag runs.stands (c.new-local_name.ensures ∙ ap local_name (sym named), spaced) when in
+      let collected = chained_keeps _ (λ (xs : List MatchInfo) q. (q.0.ghost_name ≡ c.handler-1.given) × HasTaken (vec_capacity c.args.matches.now) xs q.0.now)
+      (λ xs q x v j k. search (rules, j, k, takes_on (vec_capacity c.args.matches.now) xs x q.0.now v.0.now j.1)) _ _ _ (refl, λ _. (c.clear.ensures.items, c.clear.ensures.capacity)) answered.1.reported in
+      search (rules, collected.0, collected.1)
 
-  kept : c.matches-1.given.0.refused ≡ false → c.matches-1.given.0.items.items ≡ map info_of matched
-  kept unrefused =
-      let told = c.in-Ok.ensures.answered s esi events tag runs.stands (c.new-local_name.ensures ∙ ap local_name (sym named), spaced) when in
-      let collected = chained_keeps _ (λ (xs : List MatchInfo) q. (q.0.ghost_name ≡ c.handler-1.given) × (q.0.now.refused ≡ false → q.0.now.items.items ≡ xs))
-      (λ xs q x v j k. search (rules, j, k)) _ _ _ (refl, λ _. c.clear.ensures.items) told.1.reported in
-      search (rules, collected.0, collected.1, unrefused)
+  fits : HoldsEachReport s (vec_capacity c.args.matches.now) → length (map info_of matched) ≤ vec_capacity c.args.matches.now
+  fits = fits_in s esi events tag matched c.in-Ok._asked _ _ (c.in-Ok.ensures.answered s esi events tag runs.stands (c.new-local_name.ensures ∙ ap local_name (sym named), spaced) when).1.answered _
 
--- without them, where they aren't
-unasked_rest : {asked : Bool} {A : Type 0} → asked ≡ false → asked ≡ true → A
-unasked_rest unasked is = absurd (true≢false (sym is ∙ unasked))
+pub returns-in-Ok-clause-told : goal.returns-in-Ok-clause-told
+returns-in-Ok-clause-told g c = λ s esi events tag runs named spaced rest holds.
+    let a = (goal.at.returns-in-Ok-clause-told g c).After-number_opened in
+    let when = λ (yes : c.in-Ok._asked ≡ true). rest in
+    told_as s esi events tag c.in-Ok._asked c.args.number c.number_opened.result _ (allowed c.args.vm.now c.args.limiter.now) c.args.vm.now c.number_opened.new.vm c.exec_for_whole_start_tag.new.limiter
+    (told g a s esi events runs tag named spaced when (taken g a s esi events runs tag named spaced when (fits g a s esi events runs tag named spaced when holds)).0)
 
-pub returns-else-matches-clause-told : goal.returns-else-matches-clause-told
-returns-else-matches-clause-told g c = λ s esi events tag runs named spaced rest.
-    let a = (goal.at.returns-else-matches-clause-told g c).After-clear_opened-opened in
-    let is = answered g a s esi events runs tag named spaced (λ yes. rest) in
-    let bare = answered g a s esi events runs (bare_tag tag.name tag.namespace) named spaced in
-    let kept = λ (tag : StartTag) (named : tag.name ≡ c.args.name.now) (spaced : tag.namespace ≡ c.args.ns) (when : c.in-Ok._asked ≡ true → IsRestOf c.args.aux_info tag). kept g a s esi events runs tag named spaced when c.if-matches.false in
-    let left = is.leaves (kept tag named spaced (λ yes. rest)) in
-    (handed_as s esi events tag (allowed c.args.vm.now c.args.limiter.now) c.clear_opened-opened.new.vm c.exec_for_whole_start_tag.new.limiter rest.2 c.in-Ok._asked _ (is.reported (kept tag named spaced (λ yes. rest))) (λ none. (bare (unasked_rest none)).reported (kept (bare_tag tag.name tag.namespace) named spaced (unasked_rest none))), left.0, left.1)
-
-pub returns-then-matches-clause-told : goal.returns-then-matches-clause-told
-returns-then-matches-clause-told g c = λ s esi events tag runs named spaced rest.
-    let a = (goal.at.returns-then-matches-clause-told g c).After-clear_opened-opened in
-    let is = answered g a s esi events runs tag named spaced (λ yes. rest) in
-    let bare = answered g a s esi events runs (bare_tag tag.name tag.namespace) named spaced in
-    (handed_unreported_as s esi events tag (allowed c.args.vm.now c.args.limiter.now) c.clear_opened-opened.new.vm c.exec_for_whole_start_tag.new.limiter rest.2 c.in-Ok._asked (asks g a s esi events runs tag named spaced (λ yes. rest)) is.unreported (λ none. (bare (unasked_rest none)).unreported), is.grows)
+pub returns-in-Ok-clause-room : goal.returns-in-Ok-clause-room
+returns-in-Ok-clause-room g c = λ s esi events tag runs named spaced rest holds.
+    let a = (goal.at.returns-in-Ok-clause-room g c).After-number_opened in
+    let when = λ (yes : c.in-Ok._asked ≡ true). rest in
+    subst (HoldsEachReport s) (sym (taken g a s esi events runs tag named spaced when (fits g a s esi events runs tag named spaced when holds)).1) holds
 
 pub returns-in-Err-MemoryLimitExceeded-clause-refused : goal.returns-in-Err-MemoryLimitExceeded-clause-refused
 returns-in-Err-MemoryLimitExceeded-clause-refused g c = λ s esi events tag runs named spaced rest.
@@ -96,19 +90,12 @@ pub returns-in-Err-Failed-clause-refused : goal.returns-in-Err-Failed-clause-ref
 returns-in-Err-Failed-clause-refused g c = λ s esi events tag runs named spaced rest.
     absurd (true≢false (sym (c.exec_for_whole_start_tag.ensures.failed.exactly.0 (c.in-Err-Failed.is ∙ ap Err c.in-Err-Failed.field-0-is)) ∙ runs.stands.unfailed))
 
-pub returns-then-matches-clause-tried : goal.returns-then-matches-clause-tried
-returns-then-matches-clause-tried g c = λ s esi events tag runs named spaced rest.
-    tried_on s esi events tag c.clear_opened-opened.ensures.running (c.exec_for_whole_start_tag.ensures.tried s esi events tag runs.stands (c.new-local_name.ensures ∙ ap local_name (sym named), spaced) rest)
+pub returns-in-Ok-clause-tried : goal.returns-in-Ok-clause-tried
+returns-in-Ok-clause-tried g c = λ s esi events tag runs named spaced rest.
+    tried_on s esi events tag c.number_opened.ensures.running (c.exec_for_whole_start_tag.ensures.tried s esi events tag runs.stands (c.new-local_name.ensures ∙ ap local_name (sym named), spaced) rest)
 
-pub returns-else-matches-clause-tried : goal.returns-else-matches-clause-tried
-returns-else-matches-clause-tried g c = λ s esi events tag runs named spaced rest.
-    tried_on s esi events tag c.clear_opened-opened.ensures.running (c.exec_for_whole_start_tag.ensures.tried s esi events tag runs.stands (c.new-local_name.ensures ∙ ap local_name (sym named), spaced) rest)
-
-pub returns-else-matches-clause-charged : goal.returns-else-matches-clause-charged
-returns-else-matches-clause-charged g c = charged_after c.exec_for_whole_start_tag.ensures.charges c.clear_opened-opened.ensures.running
-
-pub returns-then-matches-clause-charged : goal.returns-then-matches-clause-charged
-returns-then-matches-clause-charged g c = charged_after c.exec_for_whole_start_tag.ensures.charges c.clear_opened-opened.ensures.running
+pub returns-in-Ok-clause-charged : goal.returns-in-Ok-clause-charged
+returns-in-Ok-clause-charged g c = charged_after c.exec_for_whole_start_tag.ensures.charges c.number_opened.ensures.running
 
 pub returns-in-Err-MemoryLimitExceeded-clause-still_open : goal.returns-in-Err-MemoryLimitExceeded-clause-still_open
 returns-in-Err-MemoryLimitExceeded-clause-still_open g c = λ s esi events tag runs named spaced.

@@ -2,7 +2,8 @@ use Rattle.std.proofs.Common.{◌≡◌, ◌-◌, Some, length, sym, ap, ◌∙�
 use Rattle.std.specs.Prelude.{slice_get, slice_set}
 use Rattle.std.specs.Option.{option_copied_mut}
 use Rattle.lol_vm.specs.Vms.{data_in}
-use Rattle.lol_matcher.proofs.Opened.{last_value_is, with_value_is}
+use Rattle.lol_matcher.specs.declared.open_element.OpenElement.{OpenElement}
+use Rattle.lol_matcher.proofs.Opened.{change_last_is, last_value_is}
 use Rattle.lol_matcher.proofs.tags.replace_value.Goals as goal
 
 pub returns-in-Some-clause-before : goal.returns-in-Some-clause-before
@@ -15,4 +16,4 @@ pub returns-in-Some-clause-changed : goal.returns-in-Some-clause-changed
 returns-in-Some-clause-changed g c =
     let kept = data_in c.args.vm.now in
     let here : slice_get kept (length kept - 1) ≡ Some c.in-Some.element.now = sym (ap option_copied_mut (sym c.in-Some.is) ∙ (c.current_element_data_mut.ensures.value ∙ c.data_laws.ensures.lent c.args.vm.now)) in
-    c.data_laws.ensures.changed c.args.vm.now _ ∙ (ap (λ v. slice_set kept (length kept - 1) (record c.in-Some.element.now { value = v })) c.replace.ensures.after ∙ with_value_is c.args.value kept c.in-Some.element.now here)
+    c.data_laws.ensures.changed c.args.vm.now _ ∙ (ap (λ v. slice_set kept (length kept - 1) (record c.in-Some.element.now { value = v })) c.replace.ensures.after ∙ change_last_is (λ (e : OpenElement _). record e { value = c.args.value }) kept c.in-Some.element.now here)

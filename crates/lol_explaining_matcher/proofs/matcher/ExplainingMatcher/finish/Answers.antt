@@ -4,66 +4,68 @@ use Rattle.lol_matcher.specs.Noted.{finished_told}
 use Rattle.lol_matcher.specs.Told.{Matching}
 use Rattle.lol_matcher.specs.declared.error.MatcherError.TheVariants.{Memory}
 use Rattle.lol_explaining_matcher.specs.Explaining.{Explains}
-use Rattle.lol_explaining_matcher.specs.Notes.{Noting}
-use Rattle.lol_explaining_matcher.proofs.Calls.{finishes, if_err, if_some, leaves_unreported, refused_unreported, refuses_finish, refuses_last_report}
+use Rattle.lol_explaining_matcher.proofs.Calls.{finishes, if_err, if_some, leaves_refused, leaves_unreported, refused_unreported, refuses_finish, refuses_last_report}
 use Rattle.lol_explaining_matcher.proofs.Going.{finished_explains, refused_explains}
 use Rattle.lol_explaining_matcher.proofs.matcher.ExplainingMatcher.finish.Goals as goal
 
 pub invariant_of-self : goal.invariant_of-self
 invariant_of-self g c =
-    let texts = texts_in c.self.inside.texts in
-    subst (λ (notes : Noting). Explains texts c.self.inside.explainer notes c.finish.new.self) (sym c.in_err-report-in-Ok.ensures.refused.1)
-    (refused_explains texts c.self.inside.explainer c.self.inside.notes c.self.inside.notes c.self.inside.matcher c.finish.new.self c.self.invariant (ap (λ (m : Matching _). m.told.ast) c.in-Ok.ensures.ok))
+    let refused = c.in_err-keep_report-in-Ok.ensures.refused in
+    refused_explains (texts_in c.self.inside.texts) c.self.inside.explainer c.self.inside.failed _ c.self.inside.matcher c.finish.new.self c.self.inside.matches.items _ c.self.invariant
+    (ap (λ (m : Matching _). m.told.ast) c.in-Ok.ensures.ok) refused.2 refused.1
 
 pub invariant_of-self-in-Ok : goal.invariant_of-self-in-Ok
 invariant_of-self-in-Ok g c =
-    let texts = texts_in c.self.inside.texts in
-    let explainer = c.self.inside.explainer in
     let given = c.in-Ok.ensures in
-    subst (λ (notes : Noting). Explains texts explainer notes c.finish.new.self) (sym c.in_ok-report-in-Ok.ensures.ok)
-    (finished_explains c.plain_laws.ensures texts explainer c.self.inside.notes c.self.inside.matcher c.self.invariant (sym c.has_failed.ensures ∙ c.if-has_failed.false) c.finish.new.self c.args.aux_info given.well.2 given.reported given.opens given.ok)
+    let kept = c.in_ok-keep_report-in-Ok.ensures in
+    subst (λ failed. Explains (texts_in c.self.inside.texts) c.self.inside.explainer c.finish.new.self failed c.keep_report.new.matches.items) (sym kept.well)
+    (finished_explains c.plain_laws.ensures (texts_in c.self.inside.texts) c.self.inside.explainer c.self.inside.failed c.if-self.false c.self.inside.matcher c.self.inside.matches.items c.self.invariant c.finish.new.self _ kept.kept
+    (kept.reported (ap (λ (m : Matching _). m.failed) given.ok ∙ given.well.0)) c.args.aux_info given.well.2 given.reported given.opens given.ok)
 
-pub returns-in_ok-report-in-Ok-clause-reported : goal.returns-in_ok-report-in-Ok-clause-reported
-returns-in_ok-report-in-Ok-clause-reported g c = rw (← c.self.view_is) c.in-Ok.ensures.reported
+pub returns-in_ok-keep_report-in-Ok-clause-reported : goal.returns-in_ok-keep_report-in-Ok-clause-reported
+returns-in_ok-keep_report-in-Ok-clause-reported g c = rw (← c.self.view_is) c.in-Ok.ensures.reported
 
-pub returns-in_ok-report-in-Ok-clause-fits : goal.returns-in_ok-report-in-Ok-clause-fits
-returns-in_ok-report-in-Ok-clause-fits g c = rw (← c.self.view_is) c.in-Ok.ensures.fits
+pub returns-in_ok-keep_report-in-Ok-clause-fits : goal.returns-in_ok-keep_report-in-Ok-clause-fits
+returns-in_ok-keep_report-in-Ok-clause-fits g c = rw (← c.self.view_is) c.in-Ok.ensures.fits
 
-pub returns-in_ok-report-in-Ok-clause-plainly : goal.returns-in_ok-report-in-Ok-clause-plainly
-returns-in_ok-report-in-Ok-clause-plainly g c =
+pub returns-in_ok-keep_report-in-Ok-clause-plainly : goal.returns-in_ok-keep_report-in-Ok-clause-plainly
+returns-in_ok-keep_report-in-Ok-clause-plainly g c =
     let given = c.in-Ok.ensures in
     rw (← c.self.view_is)
-    (finishes c.plain_laws.ensures (texts_in c.self.inside.texts) c.self.inside.explainer c.self.inside.notes c.self.inside.matcher c.self.invariant c.finish.new.self c.report.new.self.matched
-    (ap (λ (notes : Noting). notes.matched) c.in_ok-report-in-Ok.ensures.ok) c.args.aux_info given.reported given.opens given.fits)
+    (finishes c.plain_laws.ensures (texts_in c.self.inside.texts) c.self.inside.explainer c.self.inside.failed c.self.inside.matcher c.self.inside.matches.items c.self.invariant c.finish.new.self c.keep_report.new.matches.items
+    c.in_ok-keep_report-in-Ok.ensures.kept c.args.aux_info given.reported given.opens given.fits)
 
-pub returns-in_err-report-in-Ok-clause-refused : goal.returns-in_err-report-in-Ok-clause-refused
-returns-in_err-report-in-Ok-clause-refused g c =
+pub returns-in_err-keep_report-in-Ok-clause-refused : goal.returns-in_err-keep_report-in-Ok-clause-refused
+returns-in_err-keep_report-in-Ok-clause-refused g c =
     let is : c.from_residual.result ≡ Err Memory = search rules in
     rw (← c.self.view_is) (if_err _ c.from_residual.result Memory is (λ refusal. if_some c.self.inside.matcher.told.asked (λ asked fits. refused_unreported fits) c.in-Ok.ensures.fits))
 
-pub returns-in_err-report-in-Ok-clause-refused_plainly : goal.returns-in_err-report-in-Ok-clause-refused_plainly
-returns-in_err-report-in-Ok-clause-refused_plainly g c =
+pub returns-in_err-keep_report-in-Ok-clause-refused_plainly : goal.returns-in_err-keep_report-in-Ok-clause-refused_plainly
+returns-in_err-keep_report-in-Ok-clause-refused_plainly g c =
     let is : c.from_residual.result ≡ Err Memory = search rules in
     rw (← c.self.view_is)
-    (if_err _ c.from_residual.result Memory is (λ refusal. refuses_last_report c.plain_laws.ensures (texts_in c.self.inside.texts) c.self.inside.explainer c.self.inside.notes c.self.inside.matcher c.self.invariant c.args.aux_info c.in-Ok.ensures.fits))
+    (if_err _ c.from_residual.result Memory is (λ refusal. refuses_last_report c.plain_laws.ensures (texts_in c.self.inside.texts) c.self.inside.explainer c.self.inside.failed c.self.inside.matcher c.self.inside.matches.items c.self.invariant c.args.aux_info c.in-Ok.ensures.fits))
 
-pub returns-then-has_failed-2-clause-refused : goal.returns-then-has_failed-2-clause-refused
-returns-then-has_failed-2-clause-refused g c = rw (← c.self.view_is) c.in-Err.ensures.refused
+pub returns-then-has_failed-clause-refused : goal.returns-then-has_failed-clause-refused
+returns-then-has_failed-clause-refused g c = rw (← c.self.view_is) c.in-Err.ensures.refused
 
-pub returns-then-has_failed-2-clause-refused_plainly : goal.returns-then-has_failed-2-clause-refused_plainly
-returns-then-has_failed-2-clause-refused_plainly g c =
+pub returns-then-has_failed-clause-refused_plainly : goal.returns-then-has_failed-clause-refused_plainly
+returns-then-has_failed-clause-refused_plainly g c =
     rw (← c.self.view_is)
-    (λ refusal. refuses_finish c.plain_laws.ensures (texts_in c.self.inside.texts) c.self.inside.explainer c.self.inside.notes c.self.inside.matcher c.self.invariant c.in-Err.error c.args.aux_info (c.in-Err.ensures.refused refusal))
+    (λ refusal. refuses_finish c.plain_laws.ensures (texts_in c.self.inside.texts) c.self.inside.explainer c.self.inside.failed c.self.inside.matcher c.self.inside.matches.items c.self.invariant c.in-Err.error c.args.aux_info (c.in-Err.ensures.refused refusal))
 
-pub returns-then-has_failed-2-clause-left : goal.returns-then-has_failed-2-clause-left
-returns-then-has_failed-2-clause-left g c = rw (← c.self.view_is) c.in-Err.ensures.left
+pub returns-then-has_failed-clause-left : goal.returns-then-has_failed-clause-left
+returns-then-has_failed-clause-left g c =
+    let old = c.self.inside.matcher in
+    rw (← c.self.view_is)
+    (λ refusal. if_some old.told.asked (λ asked h. leaves_refused c.in-Err.error _ _ old c.finish.new.self (c.in-Err.ensures.after refusal)) (c.in-Err.ensures.refused refusal))
 
-pub returns-in_err-report-in-Ok-clause-left : goal.returns-in_err-report-in-Ok-clause-left
-returns-in_err-report-in-Ok-clause-left g c =
+pub returns-in_err-keep_report-in-Ok-clause-left : goal.returns-in_err-keep_report-in-Ok-clause-left
+returns-in_err-keep_report-in-Ok-clause-left g c =
     let is : c.from_residual.result ≡ Err Memory = search rules in
     let old = c.self.inside.matcher in
     let new = c.finish.new.self in
     let open_elements = ap (λ (m : Matching _). m.open_elements) c.in-Ok.ensures.ok in
     rw (← c.self.view_is)
     (if_err _ c.from_residual.result Memory is
-    (λ refusal. if_some old.told.asked (λ asked opens. leaves_unreported (finished_told old.told c.args.aux_info) _ old new open_elements opens) c.in-Ok.ensures.opens))
+    (λ refusal. if_some old.told.asked (λ asked opens. leaves_unreported (finished_told old.told c.args.aux_info) old.told.events _ old new open_elements opens) c.in-Ok.ensures.opens))

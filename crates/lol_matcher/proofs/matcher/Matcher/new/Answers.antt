@@ -1,7 +1,10 @@
-use Rattle.std.proofs.Common.{◌≡◌, ◌^◌, ◌<◌, ◌≤◌, refl, sym, ap, subst}
+use Rattle.std.proofs.Common.{◌≡◌, ◌^◌, ◌<◌, ◌≤◌, [], map, true≢false, refl, sym, ap, subst}
 use Rattle.lol_memory.specs.Limiter.{Limiter}
+use Rattle.lol_vm.specs.ReportRoom.{HoldsEachReport}
 use Rattle.lol_vm.specs.Views.{selectors}
 use Rattle.lol_vm.specs.Vms.{slot_bytes}
+use Rattle.lol_matcher.specs.LastLaws.{last_first}
+use Rattle.lol_matcher.specs.declared.open_element.OpenElement.{OpenElement}
 use Rattle.lol_matcher.proofs.Beginning.{charged_at_first, runs_at_first}
 use Rattle.lol_matcher.proofs.matcher.Matcher.new.Goals as goal
 
@@ -16,7 +19,12 @@ invariant_of-result g c =
     rw c.new-past.ensures (record {
       charged = charged_at_first vm c.new-2.result told.slots usage;
       has_open = c.run_laws.ensures.has_open (selectors c.args.ast) c.args.enable_esi_tags vm _ told.stands;
+      numbered = ap (map (λ (e : OpenElement _). e.number)) told.empty;
+      counted = λ ok. refl;
+      last = λ ok. last_first (selectors c.args.ast) _ _ _ _ refl c.in-Ok.ensures.empty refl;
+      silent = λ failed. absurd (true≢false (sym failed));
       runs = λ ok. runs_at_first (selectors c.args.ast) c.args.enable_esi_tags vm c.new-2.result told.stands some word told.slots usage;
       waits = λ ok. tt;
       told_open = λ ok. refl;
+      room = λ ok. subst (HoldsEachReport (selectors c.args.ast)) (sym c.in-Ok.ensures.room) (c.run_laws.ensures.few (selectors c.args.ast) c.args.enable_esi_tags vm [] told.stands);
     })

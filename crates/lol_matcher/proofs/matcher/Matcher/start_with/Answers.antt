@@ -1,16 +1,21 @@
-use Rattle.std.proofs.Common.{rules, ◌≡◌, refl, inr, sym, ap, subst}
+use Rattle.std.proofs.Common.{rules, ◌≡◌, Bool, length, map, ap, ◌∙◌, true≢false, refl, sym, subst, vec_capacity}
 use Rattle.lol_base.specs.StartTags.{RangesAreInside, StartTag}
+use Rattle.lol_vm.specs.Events.{has_content}
 use Rattle.lol_vm.specs.FreeTags.{AreFlat}
+use Rattle.lol_vm.specs.ReportRoom.{HoldsEachReport}
 use Rattle.lol_vm.specs.Views.{selectors}
-use Rattle.lol_vm.specs.Vms.{HasOpen, IsTriedAtMost, tries_in}
-use Rattle.lol_matcher.specs.Keeping.{ForHandedTag, IsHanded, IsRefusal, Runs, allowed}
+use Rattle.lol_vm.specs.Vms.{HasOpen, IsTriedAtMost, data_in, is_asked_for, tries_in}
+use Rattle.lol_matcher.specs.Answering.{KeepsOne}
+use Rattle.lol_matcher.specs.Keeping.{ForHandedTag, IsRefusal, IsToldAs, Runs, allowed}
+use Rattle.lol_matcher.specs.LastLaws.{last_start}
 use Rattle.lol_matcher.specs.Noted.{handed, handed_told}
 use Rattle.lol_matcher.specs.Refusing.{IsRefusedFor, refusal_after}
-use Rattle.lol_matcher.specs.Told.{Told, elements_of, heard}
+use Rattle.lol_matcher.specs.Told.{Told, elements_of, heard, in_word, numbers_open}
+use Rattle.lol_matcher.specs.declared.open_element.OpenElement.{OpenElement}
 use Rattle.lol_matcher.specs.declared.error.MatcherError.{MatcherError}
-use Rattle.lol_matcher.specs.declared.tags.Finished.{Finished}
 use Rattle.lol_matcher.proofs.Handing.{answered_report, told_handed}
-use Rattle.lol_matcher.proofs.Refusals.{is_refusal, keeps_failed, left_same, not_failed, refused_unreported, still_refusal}
+use Rattle.lol_matcher.proofs.Numbers.{count_dropped, count_push, numbered_after}
+use Rattle.lol_matcher.proofs.Refusals.{is_refusal, keeps_failed, not_failed, still_refusal}
 use Rattle.lol_matcher.proofs.matcher.Matcher.start_with.Given as given
 use Rattle.lol_matcher.proofs.matcher.Matcher.start_with.Goals as goal
 use Rattle.lol_matcher.proofs.matcher.Matcher.start_with.Goals.{After-hand_tag}
@@ -32,14 +37,24 @@ module _ (g : given.Over) (c : After-hand_tag g) where
   has_open : Runs (selectors t.ast) t.esi (heard (handed_told t tag)) c.hand_tag.new.vm c.hand_tag.new.limiter → HasOpen c.hand_tag.new.vm (elements_of (handed_told t tag))
   has_open on = c.run_laws.ensures.has_open (selectors t.ast) t.esi c.hand_tag.new.vm (heard (handed_told t tag)) on.stands
 
-  abbrev IsAnswered : Finished → Type 0
-  IsAnswered answer = IsHanded (selectors t.ast) t.esi (heard t) tag answer c.hand_tag.new.matches.items.items (allowed c.self.inside.vm c.self.inside.limiter) c.self.inside.vm c.hand_tag.new.vm c.hand_tag.new.limiter
+  holds : HoldsEachReport (selectors t.ast) (vec_capacity c.self.inside.matches)
+  holds = c.self.invariant.room c.if-self.false
+
+  numbered : map (λ (e : OpenElement g.row.T.Denot). e.number) (data_in c.self.inside.vm) ≡ numbers_open (elements_of t)
+  numbered = c.self.invariant.numbered ∙ ap numbers_open (c.self.invariant.told_open c.if-self.false)
+
+  counted : c.drop_request.new.tags_told ≡ in_word (length (heard t))
+  counted = c.drop_request.ensures.counted ∙ count_dropped (selectors t.ast) t.esi t.events t.asked c.self.inside.vm c.self.inside.request (c.self.invariant.waits c.if-self.false) c.self.inside.tags_told (c.self.invariant.counted c.if-self.false)
+
+  keeps_one : {opened : Bool} → IsToldAs (selectors t.ast) t.esi (heard t) tag (is_asked_for (selectors t.ast) t.esi (heard t) tag) c.drop_request.new.tags_told opened c.hand_tag.new.matches.items (allowed c.self.inside.vm c.self.inside.limiter) c.self.inside.vm c.hand_tag.new.vm c.hand_tag.new.limiter
+      → KeepsOne (has_content t.esi tag) (in_word (length (heard t))) c.hand_tag.new.matches.items (data_in c.self.inside.vm) (data_in c.hand_tag.new.vm)
+  keeps_one is = subst (λ n. KeepsOne (has_content t.esi tag) n c.hand_tag.new.matches.items (data_in c.self.inside.vm) (data_in c.hand_tag.new.vm)) counted is.kept
 
   -- it was answered
-  answered : {answer shown : Finished} → answer ≡ shown
-      → ForHandedTag c.self.inside.vm c.self.inside.limiter c.args.name.now c.args.ns c.args.aux_info (λ s esi events tag. IsHanded s esi events tag answer c.hand_tag.new.matches.items.items (allowed c.self.inside.vm c.self.inside.limiter) c.self.inside.vm c.hand_tag.new.vm c.hand_tag.new.limiter)
-      → IsAnswered shown
-  answered is told = subst IsAnswered is (told (selectors t.ast) t.esi (heard t) tag runs refl refl (refl, refl, refl))
+  answered : {opened : Bool}
+      → ForHandedTag c.self.inside.vm c.self.inside.limiter c.args.name.now c.args.ns c.args.aux_info (λ s esi events tag. HoldsEachReport s (vec_capacity c.self.inside.matches) → IsToldAs s esi events tag (is_asked_for s esi events tag) c.drop_request.new.tags_told opened c.hand_tag.new.matches.items (allowed c.self.inside.vm c.self.inside.limiter) c.self.inside.vm c.hand_tag.new.vm c.hand_tag.new.limiter)
+      → IsToldAs (selectors t.ast) t.esi (heard t) tag (is_asked_for (selectors t.ast) t.esi (heard t) tag) c.drop_request.new.tags_told opened c.hand_tag.new.matches.items (allowed c.self.inside.vm c.self.inside.limiter) c.self.inside.vm c.hand_tag.new.vm c.hand_tag.new.limiter
+  answered told = told (selectors t.ast) t.esi (heard t) tag runs refl refl (refl, refl, refl) holds
 
   -- it was refused
   module _ (error : MatcherError)
@@ -53,59 +68,51 @@ module _ (g : given.Over) (c : After-hand_tag g) where
 pub invariant_of-self : goal.invariant_of-self
 invariant_of-self g c =
     let a = (goal.at.invariant_of-self g c).After-hand_tag in
-    let on = (answered g a c.in-Ok-Reported.field-0-is c.in-Ok-Reported.ensures.told).0.runs in
-    rw (c.then-self-inside.ensures, c.drop_request.ensures) (record {
-      charged = c.in-Ok-Reported.ensures.charged c.self.invariant.charged;
+    let is = answered g a c.in-Ok.ensures.told in
+    let on = is.runs in
+    let s = selectors (t g a).ast in
+    rw (c.then-self-inside.ensures, c.drop_request.ensures.dropped) (record {
+      charged = c.in-Ok.ensures.charged c.self.invariant.charged;
       has_open = has_open g a on;
+      numbered = numbered_after s (t g a).esi (heard (t g a)) (tag g a) _ _ _ is.reported _ _ (keeps_one g a is) (numbered g a);
+      counted = λ ok. c.saturating_add-self-inside.ensures ∙ count_push _ (heard (t g a)) _ (counted g a);
+      last = λ ok. last_start s (handed_told (t g a) (tag g a)) _ _ _ (heard (t g a)) (tag g a) _ refl is.reported is.has_opened;
+      silent = λ failed. absurd (true≢false (sym failed ∙ c.if-self.false));
       runs = λ ok. on;
       waits = λ ok. tt;
       told_open = λ ok. refl;
+      room = λ ok. c.in-Ok.ensures.room (selectors (t g a).ast) (t g a).esi (heard (t g a)) (tag g a) (runs g a) refl refl (refl, refl, refl) (holds g a);
     })
-
-pub invariant_of-self-in-Ok-Unreported : goal.invariant_of-self-in-Ok-Unreported
-invariant_of-self-in-Ok-Unreported g c =
-    let a = (goal.at.invariant_of-self-in-Ok-Unreported g c).After-hand_tag in
-    rw c.then-self-inside-in-Ok-Unreported.ensures (keeps_failed (c.in-Ok-Unreported.ensures.charged c.self.invariant.charged) (has_open g a (answered g a c.in-Ok-Unreported.field-0-is c.in-Ok-Unreported.ensures.told).0.runs))
 
 pub invariant_of-self-in-Err : goal.invariant_of-self-in-Err
 invariant_of-self-in-Err g c =
     let a = (goal.at.invariant_of-self-in-Err g c).After-hand_tag in
+    let s = selectors (t g a).ast in
     keeps_failed (c.in-Err.ensures.charged c.self.invariant.charged)
-    (subst (HasOpen c.hand_tag.new.vm) (sym (c.self.invariant.told_open c.if-self.false)) (c.in-Err.ensures.still_open (selectors (t g a).ast) (t g a).esi (heard (t g a)) (tag g a) (runs g a) refl refl))
+    (subst (HasOpen c.hand_tag.new.vm) (sym (c.self.invariant.told_open c.if-self.false)) (c.in-Err.ensures.still_open s (t g a).esi (heard (t g a)) (tag g a) (runs g a) refl refl))
+    (ap (map (λ (e : OpenElement g.row.T.Denot). e.number)) (c.in-Err.ensures.unchanged s (t g a).esi (heard (t g a)) (tag g a) (runs g a) refl refl) ∙ c.self.invariant.numbered)
+    c.clear.ensures.items
 
-pub returns-in-Ok-Reported-clause-reported : goal.returns-in-Ok-Reported-clause-reported
-returns-in-Ok-Reported-clause-reported g c =
-    let a = (goal.at.returns-in-Ok-Reported-clause-reported g c).After-hand_tag in
-    rw (← c.self.view_is) (answered_report (selectors (t g a).ast) (t g a).esi (heard (t g a)) (tag g a) c.hand_tag.new.matches.items.items _ (answered g a c.in-Ok-Reported.field-0-is c.in-Ok-Reported.ensures.told).0.reported)
+pub returns-in-Ok-clause-reported : goal.returns-in-Ok-clause-reported
+returns-in-Ok-clause-reported g c =
+    let a = (goal.at.returns-in-Ok-clause-reported g c).After-hand_tag in
+    rw (← c.self.view_is) (answered_report (selectors (t g a).ast) (t g a).esi (heard (t g a)) (tag g a) c.hand_tag.new.matches.items _ _ (answered g a c.in-Ok.ensures.told).reported)
 
-pub returns-in-Ok-Reported-clause-answered : goal.returns-in-Ok-Reported-clause-answered
-returns-in-Ok-Reported-clause-answered g c = rw (← c.self.view_is) (answered g (goal.at.returns-in-Ok-Reported-clause-answered g c).After-hand_tag c.in-Ok-Reported.field-0-is c.in-Ok-Reported.ensures.told).0.reported
+pub returns-in-Ok-clause-answered : goal.returns-in-Ok-clause-answered
+returns-in-Ok-clause-answered g c = rw (← c.self.view_is) (answered g (goal.at.returns-in-Ok-clause-answered g c).After-hand_tag c.in-Ok.ensures.told).reported
 
-pub returns-in-Ok-Reported-clause-opens : goal.returns-in-Ok-Reported-clause-opens
-returns-in-Ok-Reported-clause-opens g c =
-    let a = (goal.at.returns-in-Ok-Reported-clause-opens g c).After-hand_tag in
-    let is = answered g a c.in-Ok-Reported.field-0-is c.in-Ok-Reported.ensures.told in
-    rw (← c.self.view_is) (record { opened = is.1; kept = is.2 })
+pub returns-in-Ok-clause-opens : goal.returns-in-Ok-clause-opens
+returns-in-Ok-clause-opens g c =
+    let a = (goal.at.returns-in-Ok-clause-opens g c).After-hand_tag in
+    let is = answered g a c.in-Ok.ensures.told in
+    rw (← c.self.view_is) (record { opened = is.has_opened; kept = keeps_one g a is })
 
-pub returns-in-Ok-Reported-clause-ok : goal.returns-in-Ok-Reported-clause-ok
-returns-in-Ok-Reported-clause-ok g c =
-    told_handed (handed c.args.name.now c.args.ns c.args.aux_info) _ _ _ _ c.self.view_is c.then-self-inside.ensures refl refl c.in-Ok-Reported.ensures.maximum c.in-Ok-Reported.ensures.bytes refl
+pub returns-in-Ok-clause-ok : goal.returns-in-Ok-clause-ok
+returns-in-Ok-clause-ok g c =
+    told_handed (handed c.args.name.now c.args.ns c.args.aux_info) _ _ _ _ c.self.view_is c.then-self-inside.ensures refl refl c.in-Ok.ensures.maximum c.in-Ok.ensures.bytes refl
 
-pub returns-in-Ok-Reported-clause-fits : goal.returns-in-Ok-Reported-clause-fits
-returns-in-Ok-Reported-clause-fits g c = rw (← c.self.view_is) (answered g (goal.at.returns-in-Ok-Reported-clause-fits g c).After-hand_tag c.in-Ok-Reported.field-0-is c.in-Ok-Reported.ensures.told).0.fits
-
-pub returns-in-Ok-Unreported-clause-refused : goal.returns-in-Ok-Unreported-clause-refused
-returns-in-Ok-Unreported-clause-refused g c =
-    let a = (goal.at.returns-in-Ok-Unreported-clause-refused g c).After-hand_tag in
-    rw (← c.self.view_is) (λ refusal. refused_unreported (answered g a c.in-Ok-Unreported.field-0-is c.in-Ok-Unreported.ensures.told).0.fits)
-
-pub returns-in-Ok-Unreported-clause-left : goal.returns-in-Ok-Unreported-clause-left
-returns-in-Ok-Unreported-clause-left g c =
-    let a = (goal.at.returns-in-Ok-Unreported-clause-left g c).After-hand_tag in
-    rw (← c.self.view_is) (λ refusal. inr (record { open_elements = ap (λ h. h.open_elements) c.then-self-inside-in-Ok-Unreported.ensures; kept = (answered g a c.in-Ok-Unreported.field-0-is c.in-Ok-Unreported.ensures.told).1 }))
-
-pub returns-in-Ok-Unreported-clause-tried : goal.returns-in-Ok-Unreported-clause-tried
-returns-in-Ok-Unreported-clause-tried g c = rw (← c.self.view_is) (λ refusal. tried g (goal.at.returns-in-Ok-Unreported-clause-tried g c).After-hand_tag)
+pub returns-in-Ok-clause-fits : goal.returns-in-Ok-clause-fits
+returns-in-Ok-clause-fits g c = rw (← c.self.view_is) (answered g (goal.at.returns-in-Ok-clause-fits g c).After-hand_tag c.in-Ok.ensures.told).fits
 
 pub returns-in-Err-clause-failed : goal.returns-in-Err-clause-failed
 returns-in-Err-clause-failed g c = not_failed c.self.view_is c.if-self.false (refusal g (goal.at.returns-in-Err-clause-failed g c).After-hand_tag c.in-Err.error c.in-Err.ensures.refused)
@@ -125,14 +132,11 @@ returns-in-Err-clause-unchanged g c = λ other. absurd (other (refusal g (goal.a
 pub returns-in-Err-clause-refused : goal.returns-in-Err-clause-refused
 returns-in-Err-clause-refused g c = rw (← c.self.view_is) (λ refusal. refused g (goal.at.returns-in-Err-clause-refused g c).After-hand_tag c.in-Err.error c.in-Err.ensures.refused)
 
-pub returns-in-Err-clause-left : goal.returns-in-Err-clause-left
-returns-in-Err-clause-left g c =
-    let a = (goal.at.returns-in-Err-clause-left g c).After-hand_tag in
+pub returns-in-Err-clause-after : goal.returns-in-Err-clause-after
+returns-in-Err-clause-after g c =
+    let a = (goal.at.returns-in-Err-clause-after g c).After-hand_tag in
     let kept = c.in-Err.ensures.unchanged (selectors (t g a).ast) (t g a).esi (heard (t g a)) (tag g a) (runs g a) refl refl in
-    rw (← c.self.view_is) (λ refusal. left_same c.in-Err.error _ _ _ _ (record { open_elements = refl; kept = kept }))
+    λ refusal. search (rules, kept)
 
 pub returns-in-Err-clause-tried : goal.returns-in-Err-clause-tried
 returns-in-Err-clause-tried g c = rw (← c.self.view_is) (λ refusal. tried g (goal.at.returns-in-Err-clause-tried g c).After-hand_tag)
-
-pub returns-in-Ok-Unreported-clause-after : goal.returns-in-Ok-Unreported-clause-after
-returns-in-Ok-Unreported-clause-after c = search rules
