@@ -3,7 +3,6 @@
 ghost use Rattle.std.specs.Prelude.{◌≡◌};
 ghost use Rattle.lol_vm.specs.Vms.{ChargesSlots};
 
-use crate::page::Refused;
 use lol_vm::{
     Ast, Attributes, ElementValue, LocalName, MatchInfo, Namespace, Selector, SelectorError,
     SelectorMatchingVm, SharedMemoryLimiter,
@@ -29,6 +28,10 @@ pub enum LinkTag<'t> {
         name: &'t [u8],
     },
 }
+
+/// A tag was refused: its element can't be charged, its parent has too many children, or memory was refused.
+#[derive(Debug, Clone, Copy, PartialEq, Eq)]
+pub struct Refused;
 
 /// How many start tags of a page are links to other hosts. Nothing stays charged, whatever is answered.
 ///

@@ -1,6 +1,6 @@
-//! Selectors from texts, and why a text is refused.
+//! Selectors from texts.
 
-ghost use Rattle.std.specs.Prelude.{◌≡◌, ◌⊎◌, Some, None, Ok, Err, IsOk, OnOk, IfErr};
+ghost use Rattle.std.specs.Prelude.{◌≡◌, ◌⊎◌, Ok, Err, OnOk, IfErr};
 ghost use Rattle.lol_css.specs.Accepting.{accept};
 ghost use Rattle.lol_css.specs.Trees.{Items};
 ghost use Rattle.lol_css.specs.declared.error.SelectorError.TheVariants.{Memory};
@@ -8,22 +8,10 @@ ghost use Rattle.lol_program.specs.Asts.{pairs_of};
 ghost use Rattle.lol_program.specs.Conditions.{pairs_under};
 ghost use Rattle.lol_program.specs.Sets.{Joins, SameMembers};
 
-use lol_css::{Selector, SelectorError, SelectorsParser};
+use lol_css::{Selector, SelectorError};
 use lol_memory::MatchId;
 use lol_program::Ast;
 use std::alloc::Global;
-
-/// Why a text is no selector; none where it is one.
-pub fn refusal_of(alloc: Global, text: &str) -> Option<SelectorError>
-    ensures accepted { result ≡ None → IsOk (accept text.now) }
-    ensures refused { (cause : SelectorError) → result ≡ Some cause
-        → (cause ≡ Memory) ⊎ (accept text.now ≡ Err cause) }
-{
-    match SelectorsParser::parse(alloc, text) {
-        Ok(_) => None,
-        Err(cause) => Some(cause),
-    }
-}
 
 /// Adds the selectors of a text under an id.
 ///
