@@ -8,7 +8,7 @@ use Rattle.std.specs.Prelude.{Bool, true, false, cond, ◌==◌, ◌&&◌, ◌||
 use Rattle.lol_tags.specs.States.{next, next_in_script, is_in_tag}
 use Rattle.lol_tags.specs.Runs.{with_some}
 use Rattle.lol_tags.specs.Reading.{fresh, step, ended, ends, tag_at, closed, advanced, is_named, is_script, noted, spelled, after, tags_from, may_be_tag, text_state, told_foreign}
-use Rattle.lol_tags.specs.Places.{is_at_start, is_at_slash, has_name, name_start, HasRead, needed_from, StandsFrom, StandApart}
+use Rattle.lol_tags.specs.Places.{is_at_start, is_at_slash, has_name, name_start, HasRead, needed_from, GoesOn, StandsFrom, StandApart}
 use Rattle.lol_tags.specs.declared.state.State.{State}
 use Rattle.lol_tags.specs.declared.state.State.TheVariants.{Data, TagOpen, RawTextLessThanSign, ScriptDataEscapedLessThanSign, ScriptDataDoubleEscapedLessThanSign, ScriptDataDoubleEscapeEnd, TagName, RawTextEndTagName, ScriptDataEscapedEndTagName, EndTagOpen, RawTextEndTagOpen, ScriptDataEscapedEndTagOpen}
 use Rattle.lol_tags.specs.declared.reader.Tag.{Tag}
@@ -377,3 +377,50 @@ pub read-told : (before : List ℕ) (foreign : Bool) (r : TagReader) → HasRead
 unfolding may_be_tag
 read-told before true r h = read-none before (told_foreign true r) h.at refl
 read-told before false r h = record { at = h.at; opened = h.opened; at_start = h.at_start; at_slash = h.at_slash; named = h.named }
+
+-- 5. Unfinished tags
+
+goes-on-at : (r : TagReader) (b : ℕ) (s : State) (o : Bool) → opens s ≡ o → fits (may_be_tag r.state) b s ≡ true → may_be_tag s ≡ true
+    → ((may_be_tag r.state ≡ true) × ((noted s r b).start ≡ r.start)) ⊎ (r.at ≤ (noted s r b).start)
+goes-on-at r b s true o f m = inr (omega (arith, opened-here s r b o))
+goes-on-at r b s false o f m = inl (fits-kept (may_be_tag r.state) b s f o m, opened-before s r b o)
+
+goes-on-if : (r : TagReader) (b : ℕ) (e : Bool) → ends r b ≡ e → GoesOn r (if e then closed (advanced r b) else advanced r b)
+goes-on-if r b true e m = absurd (let none = ends-none r b e in cc)
+goes-on-if r b false e m =
+    let s = next r.state b (is_named r) (is_script r) r.foreign in
+    goes-on-at r b s (opens s) refl (next-fits r.state b (is_named r) (is_script r) r.foreign) m
+
+goes-on-step : (r : TagReader) (b : ℕ) → GoesOn r (step r b)
+unfolding step
+goes-on-step r b = goes-on-if r b (ends r b) refl
+
+at-if : (r : TagReader) (b : ℕ) (e : Bool) → (if e then closed (advanced r b) else advanced r b).at ≡ r.at + 1
+at-if r b true = closed-at (advanced r b)
+at-if r b false = refl
+
+at-step : (r : TagReader) (b : ℕ) → (step r b).at ≡ r.at + 1
+unfolding step
+at-step r b = at-if r b (ends r b)
+
+goes-on-from : (r q new : TagReader) → q.at ≡ r.at + 1 → GoesOn r q → ((may_be_tag q.state ≡ true) × (new.start ≡ q.start)) ⊎ (q.at ≤ new.start)
+    → ((may_be_tag r.state ≡ true) × (new.start ≡ r.start)) ⊎ (r.at ≤ new.start)
+goes-on-from r q new at first (inl more) = elim (first more.0) [
+  | inl was ↦ inl (was.0, more.1 ∙ was.1)
+  | inr low ↦ inr (omega (arith, low, more.1))
+]
+goes-on-from r q new at first (inr low) = inr (omega (arith, at, low))
+
+pub goes-on : (r : TagReader) (bytes : List ℕ) → GoesOn r (after r bytes)
+goes-on r [] m = inl (m, refl)
+goes-on r (b ∷ bytes) m = goes-on-from r (step r b) (after (step r b) bytes) (at-step r b) (goes-on-step r b) (goes-on (step r b) bytes m)
+
+ends-at : (r : TagReader) (b : ℕ) (tag : Tag) (e : Bool) → ends r b ≡ e → (if e then Some (tag_at r) else None) ≡ Some tag
+    → (may_be_tag r.state ≡ true) × (may_be_tag (if e then closed (advanced r b) else advanced r b).state ≡ false)
+ends-at r b tag true e some =
+    (in-tag r.state (is_named r) (and_right (b == 62) (is_in_tag r.state (is_named r)) e), ends-none r b e)
+ends-at r b tag false e some = cc
+
+pub ends-open : (r : TagReader) (b : ℕ) (tag : Tag) → ended r b ≡ Some tag → (may_be_tag r.state ≡ true) × (may_be_tag (step r b).state ≡ false)
+unfolding step ended
+ends-open r b tag some = ends-at r b tag (ends r b) refl some

@@ -1,5 +1,5 @@
 -- Where tags stand.
-use Rattle.std.specs.Prelude.{ℕ, ◌≡◌, ◌≤◌, ◌<◌, ◌+◌, ◌-◌, Bool, true, false, ◌&&◌, ◌||◌, not, if◌then◌else◌, List, [], ◌∷◌, Some, length, slice_get}
+use Rattle.std.specs.Prelude.{ℕ, ◌≡◌, ◌≤◌, ◌<◌, ◌+◌, ◌-◌, Bool, true, false, ◌&&◌, ◌||◌, not, if◌then◌else◌, List, [], ◌∷◌, Some, length, slice_get, ◌⊎◌}
 use Rattle.std.specs.Str.{byte}
 use Rattle.lol_tags.specs.Reading.{may_be_tag}
 use Rattle.lol_tags.specs.declared.state.State.{State}
@@ -38,6 +38,10 @@ pub record HasRead (bytes : List ℕ) (r : TagReader) : Type 0 where
 -- the place from which on bytes may still belong to a tag
 abbrev pub needed_from : TagReader → ℕ
 needed_from r = if may_be_tag r.state then r.start else r.at
+
+-- A tag that isn't whole yet is the one that wasn't before, or begins in what was read since.
+abbrev pub GoesOn : TagReader → TagReader → Type 0
+GoesOn old new = may_be_tag new.state ≡ true → ((may_be_tag old.state ≡ true) × (new.start ≡ old.start)) ⊎ (old.at ≤ new.start)
 
 -- A tag stands in a stream, at or behind a place: from a `<` to behind a `>`, and its name between them.
 pub record StandsFrom (bytes : List ℕ) (from : ℕ) (tag : Tag) : Type 0 where

@@ -6,10 +6,11 @@ ghost use Rattle.std.specs.List.{concat};
 ghost use Rattle.lol_base.specs.Names.{lowercased};
 ghost use Rattle.lol_base.specs.StartTags.{IsInside, OutlineIsInside};
 ghost use Rattle.lol_tags.specs.Attributes.{outlines_of};
-ghost use Rattle.lol_tags.specs.Reading.{name_code, fresh, after, tags_from, tags_of, told_foreign};
+ghost use Rattle.lol_tags.specs.Reading.{name_code, fresh, step, ended, after, tags_from, tags_of, told_foreign, may_be_tag};
 ghost use Rattle.lol_tags.specs.Cuts.{tags_of_chunks};
-ghost use Rattle.lol_tags.specs.Places.{HasRead, needed_from, StandApart};
+ghost use Rattle.lol_tags.specs.Places.{HasRead, needed_from, GoesOn, StandApart};
 ghost use Rattle.lol_tags.specs.Idling.{stop, Lacks};
+ghost use Rattle.lol_tags.specs.declared.reader.Tag.{Tag};
 ghost use Rattle.lol_tags.specs.declared.reader.TagReader.{TagReader};
 ghost use Rattle.lol_tags.specs.declared.state.State.TheVariants.{Data};
 
@@ -33,6 +34,13 @@ pub fn unfinished_tags_are_kept()
         → HasRead before (told_foreign foreign r) }
     ensures tags { (before bytes : List ℕ) (r : TagReader) → HasRead before r
         → StandApart (before ++ bytes) (needed_from r) (tags_from r bytes) }
+{}
+
+/// Where a tag begins: it is one that wasn't whole before, or its `<` stands in what was read since; and behind a tag none is left unfinished.
+pub fn unfinished_tags_go_on()
+    ensures begins { (r : TagReader) (bytes : List ℕ) → GoesOn r (after r bytes) }
+    ensures ends { (r : TagReader) (b : ℕ) (tag : Tag) → ended r b ≡ Some tag
+        → (may_be_tag r.state ≡ true) × (may_be_tag (step r b).state ≡ false) }
 {}
 
 /// Text without `<` has no tags; and so it is in each state that one byte alone leads away from, as in raw text, a comment, a quoted value

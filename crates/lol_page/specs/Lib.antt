@@ -1,0 +1,11 @@
+pub mod Positions
+pub mod Namespaces
+pub mod Pages
+pub mod PageTags
+pub mod Parts
+pub mod Keeping
+pub mod Elements
+pub mod Readings
+pub mod PageCuts
+pub mod PageRows
+pub mod PagePlaces

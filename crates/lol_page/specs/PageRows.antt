@@ -1,0 +1,128 @@
+-- Pages and their tags, worked by hand from the HTML Standard.
+use Rattle.std.specs.Prelude.{ℕ, Bool, true, false, List, [], ◌∷◌, ◌++◌, Option, Some, None, map, codes}
+use Rattle.lol_base.specs.StartTags.{Attribute}
+use Rattle.lol_base.specs.declared.namespace.Namespace.{Namespace}
+use Rattle.lol_base.specs.declared.namespace.Namespace.TheVariants.{Html, Svg, MathML}
+use Rattle.lol_vm.specs.Events.{Event, Start}
+use Rattle.lol_page.specs.PageTags.{PageTag}
+use Rattle.lol_page.specs.Pages.{page_tags}
+
+-- the bytes of a tag, and its namespace, if it is a start tag
+pub record BriefTag : Type 0 where
+  pub text : List ℕ
+  pub namespace : Option Namespace
+
+abbrev pub html : List ℕ → BriefTag
+html text = record { text = text; namespace = Some Html }
+
+abbrev pub svg : List ℕ → BriefTag
+svg text = record { text = text; namespace = Some Svg }
+
+abbrev pub math : List ℕ → BriefTag
+math text = record { text = text; namespace = Some MathML }
+
+abbrev pub end : List ℕ → BriefTag
+end text = record { text = text; namespace = None }
+
+abbrev pub brief : PageTag → BriefTag
+brief t = record { text = t.text; namespace = t.namespace }
+
+-- a page and its tags
+pub record PageRow : Type 0 where
+  pub page : List ℕ
+  pub tags : List BriefTag
+
+abbrev pub reads : List ℕ → List BriefTag → PageRow
+reads page tags = record { page = page; tags = tags }
+
+abbrev pub tags_read : List PageRow → List (List BriefTag)
+tags_read rows = map (λ (row : PageRow). map brief (page_tags false row.page)) rows
+
+abbrev pub tags_said : List PageRow → List (List BriefTag)
+tags_said rows = map (λ (row : PageRow). row.tags) rows
+
+-- texts of elements: raw in HTML alone
+abbrev pub page_text_rows : List PageRow
+page_text_rows =
+    reads (codes "<svg><style><g/></style></svg><style><g/></style>")
+    (svg (codes "<svg>") ∷ svg (codes "<style>") ∷ svg (codes "<g/>") ∷ end (codes "</style>") ∷ end (codes "</svg>")
+    ∷ html (codes "<style>") ∷ end (codes "</style>") ∷ [])
+    ∷ reads (codes "<math><xmp><q></xmp><mtext><xmp><q></xmp>")
+    (math (codes "<math>") ∷ math (codes "<xmp>") ∷ math (codes "<q>") ∷ end (codes "</xmp>") ∷ math (codes "<mtext>")
+    ∷ html (codes "<xmp>") ∷ end (codes "</xmp>") ∷ [])
+    ∷ reads (codes "<svg/><xmp><i></xmp>") (svg (codes "<svg/>") ∷ html (codes "<xmp>") ∷ end (codes "</xmp>") ∷ [])
+    ∷ reads (codes "<svg><style/><g>") (svg (codes "<svg>") ∷ svg (codes "<style/>") ∷ svg (codes "<g>") ∷ [])
+    ∷ reads (codes "<svg><![CDATA[<b>]]></svg><![CDATA[<b>]]><i>") (svg (codes "<svg>") ∷ end (codes "</svg>") ∷ html (codes "<i>") ∷ [])
+    ∷ reads (codes "<svg><desc><br><![CDATA[<b>]]><a>") (svg (codes "<svg>") ∷ svg (codes "<desc>") ∷ html (codes "<br>") ∷ html (codes "<a>") ∷ [])
+    ∷ []
+
+-- integration points
+abbrev pub point_rows : List PageRow
+point_rows =
+    reads (codes "<svg><title><b></b></title><a>")
+    (svg (codes "<svg>") ∷ svg (codes "<title>") ∷ html (codes "<b>") ∷ end (codes "</b>") ∷ end (codes "</title>") ∷ svg (codes "<a>") ∷ [])
+    ∷ reads (codes "<svg><FOREIGNOBJECT><g><math><mi><a>")
+    (svg (codes "<svg>") ∷ svg (codes "<FOREIGNOBJECT>") ∷ html (codes "<g>") ∷ math (codes "<math>") ∷ math (codes "<mi>") ∷ html (codes "<a>") ∷ [])
+    ∷ reads (codes "<math><mi><mglyph/><malignmark/><a>")
+    (math (codes "<math>") ∷ math (codes "<mi>") ∷ math (codes "<mglyph/>") ∷ math (codes "<malignmark/>") ∷ html (codes "<a>") ∷ [])
+    ∷ reads (codes "<math><annotation-xml><svg></svg><a>")
+    (math (codes "<math>") ∷ math (codes "<annotation-xml>") ∷ svg (codes "<svg>") ∷ end (codes "</svg>") ∷ math (codes "<a>") ∷ [])
+    ∷ reads (codes "<math><annotation-xml ENCODING='Text/HTML'><a>")
+    (math (codes "<math>") ∷ math (codes "<annotation-xml ENCODING='Text/HTML'>") ∷ html (codes "<a>") ∷ [])
+    ∷ reads (codes "<math><annotation-xml encoding=application/xhtml+xml><a>")
+    (math (codes "<math>") ∷ math (codes "<annotation-xml encoding=application/xhtml+xml>") ∷ html (codes "<a>") ∷ [])
+    ∷ reads (codes "<math><annotation-xml encoding=x encoding=text/html><a>")
+    (math (codes "<math>") ∷ math (codes "<annotation-xml encoding=x encoding=text/html>") ∷ math (codes "<a>") ∷ [])
+    ∷ []
+
+-- what breaks out
+abbrev pub breakout_rows : List PageRow
+breakout_rows =
+    reads (codes "<svg><g><br><style><i></style>")
+    (svg (codes "<svg>") ∷ svg (codes "<g>") ∷ html (codes "<br>") ∷ html (codes "<style>") ∷ end (codes "</style>") ∷ [])
+    ∷ reads (codes "<svg><font><g>") (svg (codes "<svg>") ∷ svg (codes "<font>") ∷ svg (codes "<g>") ∷ [])
+    ∷ reads (codes "<svg><font COLOR=x><g>") (svg (codes "<svg>") ∷ html (codes "<font COLOR=x>") ∷ html (codes "<g>") ∷ [])
+    ∷ reads (codes "<svg><font a face><g>") (svg (codes "<svg>") ∷ html (codes "<font a face>") ∷ html (codes "<g>") ∷ [])
+    ∷ reads (codes "<math><font size=1><g>") (math (codes "<math>") ∷ html (codes "<font size=1>") ∷ html (codes "<g>") ∷ [])
+    ∷ reads (codes "<svg><font x='color'><g>") (svg (codes "<svg>") ∷ svg (codes "<font x='color'>") ∷ svg (codes "<g>") ∷ [])
+    ∷ reads (codes "<svg><g></p><a>") (svg (codes "<svg>") ∷ svg (codes "<g>") ∷ end (codes "</p>") ∷ html (codes "<a>") ∷ [])
+    ∷ reads (codes "<svg><g></q><a>") (svg (codes "<svg>") ∷ svg (codes "<g>") ∷ end (codes "</q>") ∷ svg (codes "<a>") ∷ [])
+    ∷ []
+
+-- what an end tag closes
+abbrev pub end_rows : List PageRow
+end_rows =
+    reads (codes "<q><svg></Q><a>") (html (codes "<q>") ∷ svg (codes "<svg>") ∷ end (codes "</Q>") ∷ html (codes "<a>") ∷ [])
+    ∷ reads (codes "<q><svg><desc></q></desc><a>")
+    (html (codes "<q>") ∷ svg (codes "<svg>") ∷ svg (codes "<desc>") ∷ end (codes "</q>") ∷ end (codes "</desc>") ∷ svg (codes "<a>") ∷ [])
+    ∷ reads (codes "<svg><desc><q></desc><a></q></desc><a>")
+    (svg (codes "<svg>") ∷ svg (codes "<desc>") ∷ html (codes "<q>") ∷ end (codes "</desc>") ∷ html (codes "<a>") ∷ end (codes "</q>")
+    ∷ end (codes "</desc>") ∷ svg (codes "<a>") ∷ [])
+    ∷ reads (codes "<svg><desc><svg><g></desc><a>")
+    (svg (codes "<svg>") ∷ svg (codes "<desc>") ∷ svg (codes "<svg>") ∷ svg (codes "<g>") ∷ end (codes "</desc>") ∷ svg (codes "<a>") ∷ [])
+    ∷ reads (codes "<q><math><annotation-xml></q><a>")
+    (html (codes "<q>") ∷ math (codes "<math>") ∷ math (codes "<annotation-xml>") ∷ end (codes "</q>") ∷ math (codes "<a>") ∷ [])
+    ∷ []
+
+-- a line and a column
+pub record Place : Type 0 where
+  pub line : ℕ
+  pub column : ℕ
+
+abbrev pub place : ℕ → ℕ → Place
+place line column = record { line = line; column = column }
+
+abbrev pub places_read : List ℕ → List Place
+places_read page = map (λ (t : PageTag). place t.line t.column) (page_tags false page)
+
+-- 10 and 13 are the bytes that end lines.
+abbrev pub lines_page : List ℕ
+lines_page =
+    codes "a<b>" ++ 10 ∷ codes "<b>" ++ 13 ∷ 10 ∷ codes " <i" ++ 10 ∷ codes "><i>" ++ 13 ∷ codes "<u>" ++ 10 ∷ 10 ∷ codes "<s>" ++ 13 ∷ 13 ∷ 10 ∷ codes "<s>"
+
+abbrev pub attribute : List ℕ → List ℕ → Attribute
+attribute name value = record { name = name; value = Some value }
+
+abbrev pub start : List ℕ → Namespace → List Attribute → Bool → Event
+start name ns attributes self_closing =
+    Start (record { name = name; namespace = ns; attributes = attributes; self_closing = self_closing; finish = true })

@@ -1,0 +1,2 @@
+pub mod PageMatches
+pub mod MatchLaws

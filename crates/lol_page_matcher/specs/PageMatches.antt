@@ -1,0 +1,57 @@
+-- What matches in a page.
+use Rattle.std.specs.Prelude.{ℕ, ◌≡◌, Bool, List, [], ◌∷◌, ◌++◌, length, map, flat_map, take, drop, Option, Some, None}
+use Rattle.std.specs.Option.{option_map}
+use Rattle.lol_memory.specs.declared.match_info.MatchInfo.{MatchInfo}
+use Rattle.lol_program.specs.Paths.{Selectors}
+use Rattle.lol_tags.specs.Runs.{with_some}
+use Rattle.lol_vm.specs.Answers.{Answer, Match, answers, answers_from, document}
+use Rattle.lol_vm.specs.Events.{Event}
+use Rattle.lol_vm.specs.Views.{match_of, selectors}
+use Rattle.lol_matcher.specs.Last.{matches_in}
+use Rattle.lol_matcher.specs.Told.{Told, heard}
+use Rattle.lol_page.specs.PageTags.{PageTag}
+use Rattle.lol_page.specs.Pages.{events_of, events_of_tags, page_tags, page_events}
+use Rattle.lol_page.specs.Readings.{with_text}
+use Rattle.lol_page.specs.declared.page_reader.PlacedTag.{PlacedTag}
+
+-- a tag, and what its events are reported under
+pub record PageMatch : Type 0 where
+  pub tag : PageTag
+  pub matched : List Match
+
+-- one that is reported under something
+abbrev pub match_if : PageTag → List Match → Option PageMatch
+match_if tag [] = None
+match_if tag (m ∷ matched) = Some (record { tag = tag; matched = m ∷ matched })
+
+-- what answers report, in order
+abbrev pub matched_of : List Answer → List Match
+matched_of answers = flat_map matches_in answers
+
+-- the matches of tags, by the answers to all their events
+abbrev pub matches_by : List PageTag → List Answer → List PageMatch
+matches_by [] answers = []
+matches_by (tag ∷ tags) answers =
+    with_some (match_if tag (matched_of (take (length (events_of tag)) answers))) (matches_by tags (drop (length (events_of tag)) answers))
+
+-- The matches of a page: what lol_vm answers to the events of the whole page.
+abbrev pub page_matches : Selectors → Bool → Bool → List ℕ → List PageMatch
+page_matches s esi scripting page = matches_by (page_tags scripting page) (answers s esi (page_events scripting page))
+
+-- the answers to events that come after what a matcher has heard
+abbrev pub answers_told : Told → List Event → List Answer
+answers_told t events = answers_from (selectors t.ast) t.esi (document (selectors t.ast) t.esi (heard t)) events
+
+-- the matches of tags that a matcher is told of, after what it has heard
+abbrev pub matches_told : Told → List PageTag → List PageMatch
+matches_told t tags = matches_by tags (answers_told t (events_of_tags tags))
+
+-- A matcher heard these events more.
+pub record HearsOn (old new : Told) (events : List Event) : Type 0 where
+  pub ast : new.ast ≡ old.ast
+  pub esi : new.esi ≡ old.esi
+  pub heard_is : heard new ≡ heard old ++ events
+
+-- a tag that a reader gave with its bytes, and what it is reported under
+abbrev pub match_read : List ℕ → List MatchInfo → Option PlacedTag → Option PageMatch
+match_read text matched tag = option_map (λ placed. record { tag = with_text text placed; matched = map match_of matched }) tag
