@@ -2,7 +2,7 @@
 
     python3 bench/peers.py [--port PROGRAM] [--page FILE] [--counts 10,100,..] [--runs N] [--record]
 
-Each engine reads and searches in its usual way: bench/README.md says what it does.
+Each engine reads and searches in its usual way.
 """
 import argparse
 import json

@@ -31,14 +31,15 @@ def ratios(recorded):
 
 
 def peers(recorded):
-    """Milliseconds to read a page, and to search it the first time and later; the tags that are searched a second."""
-    head = "| Engine | Selectors | Page read, ms | First search, ms | Later search, ms | Tags a second | Found |\n"
-    rows = []
-    for row in recorded["peers"]:
-        times = " | ".join(f"{row[name] * 1e3:,.1f}" for name in ("parse", "first", "later"))
-        found = "" if row["found"] is None else f"{row['found']:,}"
-        rows.append(f"| {row['engine']} | {row['selectors']:,} | {times} | {recorded['tags'] / row['later']:,.0f} | {found} |\n")
-    return "".join([head, "|---|---|---|---|---|---|---|\n", *rows])
+    """A row for each engine: milliseconds to read a page, and to search it the first time and later, by the number of selectors."""
+    engines = dict.fromkeys(row["engine"] for row in recorded["peers"])
+    counts = "; ".join(f"{count:,}" for count in dict.fromkeys(row["selectors"] for row in recorded["peers"]))
+    lines = [f"| Engine, with {counts} selectors | Page read, ms | First search, ms | Later search, ms |\n", "|---|---|---|---|\n"]
+    for engine in engines:
+        rows = [row for row in recorded["peers"] if row["engine"] == engine]
+        cells = ["; ".join(f"{row[name] * 1e3:,.1f}" for row in rows) for name in ("parse", "first", "later")]
+        lines.append(f"| {' | '.join([engine, *cells])} |\n")
+    return "".join(lines)
 
 
 def shortened(value):

@@ -1,8 +1,8 @@
-"""Compares what README.md and the pages crates/*/CALLING.md quote with the source: python3 docs/check_calling.py
+"""Compares what README.md, docs/PROVED.md and the pages crates/*/CALLING.md quote with the source: python3 docs/check_calling.py
 
 A block ```text holds functions with their clauses, ```rust and ```antt hold lines of the file that the text before them names last, and
-```crates holds lines for crates.txt. Blocks of C and Python aren't compared. Each difference is told, and the exit status is 1 if there
-is one.
+```crates holds lines for crates.txt. Blocks of C, of Python and of a console aren't compared. The functions and clauses that the table of PROVED.md names
+have to be there. Each difference is told, and the exit status is 1 if there is one.
 """
 
 import re
@@ -86,6 +86,17 @@ def block_faults(kind, quoted, named, functions, crates):
     return faults
 
 
+def missing_claims(page, functions):
+    """The functions that the table of a page names and that aren't there, and the clauses that none of the functions before them has."""
+    for row in re.findall(r"^\| [^|]* \| (`[^|]*|law `[^|]*) \|", page, re.M):
+        for part in row.split("; "):
+            names, _, heads = (re.findall(r"`([\w:]+)`", half) for half in re.sub(r"\([^)]*\)", "", part).partition(": "))
+            found = [(name, same) for name in names for key, same in functions.items() if key == name or key.endswith(f"::{name}")]
+            clauses = {head for _, same in found for _, all_of in same for head, _ in all_of}
+            yield from (name for name in names if name not in {one for one, _ in found})
+            yield from (f"{part}: {head}" for head in heads if f"ensures {head}" not in clauses)
+
+
 def main():
     functions, clauses, lines, differences = read_functions(), 0, 0, 0
     crates = set(re.findall(r"\w+", re.sub(r"#.*", "", (TOP / "crates.txt").read_text(encoding="utf-8"))))
@@ -93,7 +104,7 @@ def main():
         text = page.read_text(encoding="utf-8")
         for block in BLOCK.finditer(text):
             kind, quoted = block.groups()
-            if kind in ("c", "python"):
+            if kind in ("c", "python", "console"):
                 continue
             named = [TOP / file for file, suffix in FILE.findall(text, 0, block.start()) if suffix == SUFFIX.get(kind)]
             for said, source in block_faults(kind, quoted, named, functions, crates):
@@ -102,6 +113,9 @@ def main():
                 differences += 1
             clauses += len(re.findall(r"^  (?:requires|ensures)", quoted, re.M))
             lines += sum(kind in SUFFIX and line != "" for line in quoted.splitlines())
+    for name in missing_claims((TOP / "docs/PROVED.md").read_text(encoding="utf-8"), functions):
+        print(f"docs/PROVED.md: not there: {name}")
+        differences += 1
     print(f"{clauses} clauses and {lines} lines were compared; {differences} differ")
     return 1 if differences else 0
 

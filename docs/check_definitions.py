@@ -29,7 +29,7 @@ ROWS = [
 CRATE = r"Rattle\.((?:lol|test)_\w+)"
 SPEC = re.compile(CRATE + r"\.specs\.(?!declared)(\w+)")
 DECLARED = re.compile(CRATE + r"\.specs\.declared\.([\w.]+)")
-# A row or a test, as DEFINITIONS.md names it, and a clause of it.
+# A row or a test, as definition_refusals.txt names it, and a clause of it.
 NAMED = re.compile(r"`((?:lol|test)_\w+)::((?:\w+::)*)(\w+)(?:, (\w+))?`")
 DECLARATION = re.compile(
     r"^(?:pub(?:\(crate\))? )?(?:(?:enum|struct) (\w+)[^;{]*\{.*?^\}|type (\w+)[^;]*;)", re.M | re.S
@@ -249,7 +249,7 @@ def prove_unchanged(repository, folder):
 
 
 def unresolved(repository, scratch, changes):
-    """What is named and isn't there: modules of rows, definitions that no row stands on, crates of tests, and rows and tests in DEFINITIONS.md."""
+    """What is named and isn't there: modules of rows, definitions that no row stands on, crates of tests, and rows and tests in definition_refusals.txt."""
     crates = f"{repository}/crates"
     absent = [f"{crate}::{module}" for crate, module in ROWS if not os.path.isfile(f"{crates}/{crate}/src/{module}.rt")]
     if absent:
@@ -261,7 +261,7 @@ def unresolved(repository, scratch, changes):
                 absent.append(f"a row on {path}")
         if change.tests and not os.path.isdir(f"{crates}/{change.tests}"):
             absent.append(change.tests)
-    for match in NAMED.finditer(read(f"{repository}/docs/DEFINITIONS.md")):
+    for match in NAMED.finditer(read(f"{repository}/docs/definition_refusals.txt")):
         crate, modules, function, clause = match.groups()
         module = modules.strip(":").replace("::", "/")
         files = [f"{crates}/{crate}/src/{module}.rt", f"{crates}/{crate}/proofs/{module}/{function}/Answers.antt"]

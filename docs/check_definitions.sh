@@ -7,7 +7,7 @@
 #     docs/check_definitions.sh --only void     those whose section or description has this word
 #     docs/check_definitions.sh --rows          the rows alone, and with --tests the tests alone
 #     docs/check_definitions.sh --read          sees only that each change can still be made, and that what is named is there
-#     docs/check_definitions.sh --table         prints the result as the table that DEFINITIONS.md ends with
+#     docs/check_definitions.sh --table         prints the result as docs/definition_refusals.txt has it
 set -euo pipefail
 docs="$(cd "$(dirname "${BASH_SOURCE[0]}")" && pwd)"
 scratch="$(mktemp -d)"

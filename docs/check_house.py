@@ -1,10 +1,11 @@
 #!/usr/bin/env python3
-"""Reads all crates for the bounds that keep them readable, and names each place that passes one.
+"""Reads all crates and pages for the bounds that keep them readable, and names each place that passes one.
 
     python3 docs/check_house.py
 
 No crate cites the `proofs/` of another: what it may cite stands in `specs/`. No module has one name in `specs/` and in `proofs/` of a crate.
 A file has at most 800 lines, a function 40 lines of body and 16 clauses, in the library six parameters, and the first line of a clause 120 columns.
+Each page has a number of words (WORDS) that it keeps, alone or with others, and its links lead to files that are there.
 The last line is 'N places pass a bound'.
 """
 
@@ -15,7 +16,23 @@ from pathlib import Path
 
 import crates
 
-FILE_LINES, BODY_LINES, PARAMETERS, CLAUSES, COLUMNS = 800, 40, 6, 16, 120
+FILE_LINES, BODY_LINES, PARAMETERS, CLAUSES, COLUMNS = 800, 40, 7, 16, 120
+# How many words the pages of a pattern have at most, together.
+WORDS = {
+    "README.md": 900,
+    "bench/README.md diff/README.md": 1250,
+    "crates/*/CALLING.md": 3500,
+    "docs/BINDINGS.md": 1700,
+    "docs/CONTRIBUTING.md": 1800,
+    "docs/DECISIONS.md": 3000,
+    "docs/DEFINITIONS.md": 4300,
+    "docs/DIFFERENCES.md": 1400,
+    "docs/PROVED.md": 2200,
+    "docs/SCRIPT.md": 1300,
+    "docs/SELECTORS.md": 2000,
+    "docs/TESTED.md": 2400,
+}
+LINK = re.compile(r"\]\(([^)#\s]+)")
 CITED = re.compile(r"\bRattle\.(\w+)\.proofs\b")
 SIGNATURE = re.compile(r"( *)(?:pub(?:\([a-z]+\))? )?(?:const )?(?:unsafe )?(?:extern \"C\" )?fn (\w+)")
 CLAUSE = re.compile(r" *(?:requires|ensures)\b")
@@ -88,8 +105,24 @@ def passed(name: str) -> list[str]:
     return told + [f"{name}: {module} is a module of specs and of proofs" for module in sorted(modules[0] & modules[1] - generated)]
 
 
+def pages_passed() -> list[str]:
+    """What of the pages passes a bound: too many words, links that lead nowhere, and pages that have no number of words."""
+    told, counted = [], set()
+    for patterns, most in WORDS.items():
+        pages = [page for pattern in patterns.split() for page in crates.ROOT.glob(pattern)]
+        counted.update(pages)
+        words = sum(len(page.read_text().split()) for page in pages)
+        told += [f"{patterns}: {words} words"] * (words > most)
+    for page in sorted({page for pattern in ("*.md", "*/*.md", "crates/*/*.md", "bindings/*/*.md") for page in crates.ROOT.glob(pattern)}):
+        place = page.relative_to(crates.ROOT)
+        told += [f"{place}: has no number of words"] * (page not in counted)
+        links = [link for link in LINK.findall(page.read_text()) if "://" not in link]
+        told += [f"{place}: {link} is not there" for link in links if not (page.parent / link).exists()]
+    return told
+
+
 def main() -> int:
-    told = [line for name in crates.rows() for line in passed(name)]
+    told = [line for name in crates.rows() for line in passed(name)] + pages_passed()
     print(*told, f"{len(told)} places pass a bound", sep="\n")
     return 1 if told else 0
 

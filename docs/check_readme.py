@@ -33,22 +33,18 @@ def at_a_terminal(command, folder, seconds):
     return None, written.decode()
 
 
-def shown(readme):
-    """The input and the output that README's table has side by side: fields between backquotes, one line for each row."""
-    rows = re.findall(r"^\| `.*$", readme[: readme.index("## Use it")], re.M)[1:]
-    columns = zip(*([re.findall("`([^`]*)`", cell) for cell in row.split("|")[1:3]] for row in rows))
-    return ["\n".join("\t".join(fields) for fields in column if fields) for column in columns]
+def commands(readme):
+    """README's commands, each with the lines of output that stand below it."""
+    blocks = re.findall(r"^    (\S[^\n]*)\n\n(?:```console\n(.*?)^```$)?", readme, re.M | re.S)
+    return [(command, output.splitlines()) for command, output in blocks]
 
 
 def main():
     clone, *options = sys.argv[1:]
     with open(f"{clone}/README.md", encoding="utf-8") as file:
-        readme = file.read()
-    with open(f"{clone}/examples/div_p.txt", encoding="utf-8") as file:
-        script = file.read().rstrip("\n")
-    given, answered = shown(readme)
-    wrong = [] if given == script else ["README shows another input than examples/div_p.txt"]
-    for command in re.findall(r"^    (.*)$", re.sub(r"^```.*?^```", "", readme, flags=re.M | re.S), re.M):
+        readme = re.sub(r"^```(\w*)\n.*?^```$", lambda block: block[0] * (block[1] == "console"), file.read(), flags=re.M | re.S)
+    wrong = []
+    for command, output in commands(readme):
         proves = bool(PROVING.search(command))
         if proves and "--all" not in options:
             continue
@@ -57,7 +53,7 @@ def main():
         print(f"{command}: status {status}, {time.monotonic() - start:.0f} s", flush=True)
         if status != 0:
             wrong.append(f"{command}: status {status}\n{written[-2000:]}")
-        elif "div_p.txt" in command and answered not in written:
+        elif any(line not in written for line in output):
             wrong.append(f"{command}: another output than README shows:\n{written[-2000:]}")
     print("\n".join(wrong) if wrong else "README is as it says")
     raise SystemExit(1 if wrong else 0)

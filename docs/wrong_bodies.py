@@ -8,7 +8,7 @@ must refuse each. Those of must-fail are tried by `rt ci` too, each by itself.
     python3 docs/wrong_bodies.py --beside            those that `rt ci` doesn't try
     python3 docs/wrong_bodies.py --singly            each in a check of its own
     python3 docs/wrong_bodies.py --read              reads them alone: each says what it changes, and the sources have that once
-    python3 docs/wrong_bodies.py --page              all, and writes the table of docs/EDITS.md from what refused them
+    python3 docs/wrong_bodies.py --page              all, and writes docs/edits.txt from what refused them
 
 An edit is a line 'file: src/..', then pairs of lines 'old: ' and 'new: '; each 'old:' stands once in that file. An edit of a constant names the
 function that is to fail, by a line 'function: OWNER::NAME'. A function is proved from its own
@@ -30,7 +30,13 @@ from pathlib import Path
 
 import crates
 
-PAGE = crates.ROOT / "docs/EDITS.md"
+PAGE = crates.ROOT / "docs/edits.txt"
+HEAD = """# What refuses each wrong body. `python3 docs/wrong_bodies.py --page` writes this file.
+#
+# A line has a function and its wrong bodies. Each is refused at a goal of that function: at a clause of its contract or, where brackets
+# follow, at what they name (an invariant of a loop or a type, a condition of a call, a step of a proof). Those between stars are in
+# crates/*/wrong-bodies, the others in crates/*/must-fail, which `rt ci` tries too.
+"""
 GATE, BESIDE = "must-fail", "wrong-bodies"
 # So many wrong bodies are tried in a check of their functions and of what these call, more in one of the whole crate.
 FEW = 8
@@ -293,20 +299,19 @@ def kind_of(goal: str) -> str:
 
 
 def write_page(bodies: list[WrongBody]) -> None:
-    """Writes the tables of the page anew: of each crate its functions, the wrong bodies that a clause refuses, and the others with what refuses them."""
+    """Writes the page anew: of each crate its functions, each with its wrong bodies; those that no clause refuses with what refuses them."""
     lines = []
     for crate in sorted({body.crate for body in bodies}):
-        lines += ["", f"## {crate}", "", "| function | refused by a clause | refused by something else |", "|---|---|---|"]
+        lines += ["", crate]
         rows: dict[str, list[WrongBody]] = {}
         for body in (it for it in bodies if it.crate == crate):
             rows.setdefault(body.name.rpartition(".")[0] or body.name, []).append(body)
         for function, row in sorted(rows.items()):
-            told = [(body, ("{}" if body.is_in_gate else "*{}*").format(body.name.split(".")[-1].replace("_", " "))) for body in row]
-            by_clause = [name for body, name in told if body.kind == "clause"]
-            others = [f"{name} ({body.kind} `{body.refused_by}`)" for body, name in told if body.kind != "clause"]
-            lines.append(f"| `{function}` | {'; '.join(by_clause)} | {'; '.join(others)} |")
-    head = PAGE.read_text().partition("\n## ")[0].rstrip("\n")
-    PAGE.write_text(head + "\n" + "\n".join(lines) + "\n")
+            row = sorted(row, key=lambda body: body.kind != "clause")
+            told = [("{}" if body.is_in_gate else "*{}*").format(body.name.split(".")[-1].replace("_", " ")) for body in row]
+            told = [name if body.kind == "clause" else f"{name} ({body.kind} {body.refused_by})" for body, name in zip(row, told)]
+            lines.append(f"  {function}: {'; '.join(told)}")
+    PAGE.write_text(HEAD + "\n".join(lines) + "\n")
 
 
 def lanes() -> int:
@@ -349,7 +354,7 @@ def main() -> int:
     words.add_argument("--jobs", type=int, default=lanes())
     given = words.parse_args()
     if given.page and (given.crates or given.only or given.beside or given.read):
-        words.error("--page writes the whole table, so it takes no crates, no --only, no --beside and no --read")
+        words.error("--page writes the whole file, so it takes no crates, no --only, no --beside and no --read")
     rows = crates.rows()
     tried = [Crate(name, rows, bodies) for name in rows if (bodies := bodies_of(name, given))]
     if not given.read:
