@@ -27,6 +27,7 @@ WORDS = {
     "docs/DECISIONS.md": 3000,
     "docs/DEFINITIONS.md": 4300,
     "docs/DIFFERENCES.md": 1400,
+    "docs/PAGES.md": 1500,
     "docs/PROVED.md": 2200,
     "docs/SCRIPT.md": 1300,
     "docs/SELECTORS.md": 2000,
