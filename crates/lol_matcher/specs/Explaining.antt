@@ -1,8 +1,7 @@
 -- Why the last event is reported, where a matcher has the items of texts under their numbers.
-use Rattle.std.specs.Prelude.{ℕ, ◌≡◌, ◌<◌, ◌^◌, Bool, false, List, [], length, map, filter_map, slice_get, Contains, ◌↔◌}
+use Rattle.std.specs.Prelude.{ℕ, ◌≡◌, ◌<◌, ◌^◌, false, List, [], length, map, filter_map, slice_get}
 use Rattle.std.specs.Option.{option_map}
 use Rattle.lol_base.specs.Ascending.{ascending_once}
-use Rattle.lol_memory.specs.Ids.{Ids, ascending}
 use Rattle.lol_memory.specs.declared.match_info.MatchInfo.{MatchInfo}
 use Rattle.lol_reasons.specs.Explanations.{Reason, Text, added_by, explanations}
 use Rattle.lol_reasons.specs.Numbered.{HoldsItems}
@@ -28,21 +27,9 @@ numbers_in matched = map (λ info. info.match_id) matched
 abbrev pub ids_under : List (ℕ × ℕ × ℕ) → List ℕ → List ℕ
 ids_under items numbers = filter_map (λ n. option_map (λ item. item.0) (slice_get items n)) numbers
 
--- a set has exactly the ids of a list
-pub record HasIds (set : Ids) (ids : List ℕ) : Type 0 where
-  pub same : (id : ℕ) → Contains (ascending set) id ↔ Contains ids id
-
--- a report of these ids, of an element that has content or not
-abbrev pub matches_under : Bool → List ℕ → List MatchInfo
-matches_under content ids = map (λ id. record { match_id = id; with_content = content }) ids
-
--- the report of items as one under the ids that they were added under
-abbrev pub report_under : List (ℕ × ℕ × ℕ) → Bool → List MatchInfo → List MatchInfo
-report_under items content matched = matches_under content (ascending_once (ids_under items (numbers_in matched)))
-
--- A report has exactly the ids of these reasons, ascending and each once.
-abbrev pub ReportsFor : Bool → List Reason → List MatchInfo → Type 0
-ReportsFor content reasons matched = matched ≡ matches_under content (ascending_once (ids_of_reasons reasons))
+-- the ids of the reasons for the last event, ascending and each once: what it is reported under
+abbrev pub ids_with_reasons : List Text → Told → List ℕ
+ids_with_reasons texts told = ascending_once (ids_of_reasons (reasons_told texts told))
 
 -- This holds of all texts whose items a matcher has, each under its number, as an explainer knows them, until a tag is refused.
 abbrev pub ForTexts : {T : Type 0} → Explainer → Matching T → (List Text → Type 0) → Type 0

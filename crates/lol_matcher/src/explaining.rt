@@ -1,12 +1,13 @@
 //! What the last tag was reported under and why, by the texts whose items a machine has.
 
-ghost use Rattle.std.specs.Prelude.{◌≡◌, IfOk, map};
+ghost use Rattle.std.specs.Prelude.{◌≡◌, ◌≤◌, ◌<◌, ◌++◌, ◌∷◌, [], IfOk, length, map, vec_capacity};
+ghost use Rattle.lol_base.specs.Ascending.{ascending_once};
 ghost use Rattle.lol_reasons.specs.MachinesShow.{items_around};
 ghost use Rattle.lol_reasons.specs.Numbered.{items_of};
-ghost use Rattle.lol_matcher.specs.Explaining.{HasIds, ids_under, numbers_in, report_under};
+ghost use Rattle.lol_matcher.specs.Explaining.{ids_under, numbers_in};
 
 use crate::open_element::OpenElement;
-use lol_memory::{DenseHashSet, MatchId, MatchInfo};
+use lol_memory::{MatchId, MatchInfo};
 use lol_reasons::Explainer;
 use lol_stack::StackItem;
 use std::alloc::{AllocError, Global};
@@ -53,39 +54,29 @@ pub(crate) fn numbers_around<T>(
     Ok(numbers)
 }
 
-/// The ids that items were added under, by the items' numbers.
-fn ids_of(
-    alloc: Global,
-    explainer: &Explainer,
-    matches: &[MatchInfo],
-) -> Result<DenseHashSet, AllocError>
-    ensures { IfOk result (λ ids. HasIds ids (ids_under (items_of explainer.now) (numbers_in matches.now))) }
+/// Lists the ids that the items of a report were added under, ascending and each once, as far as there is room.
+pub(crate) fn list_ids(explainer: &Explainer, matches: &[MatchInfo], ids: &mut Vec<MatchId>)
+    ensures listed { length matches.now ≤ vec_capacity ids.old
+        → ids.new.items ≡ ascending_once (ids_under (items_of explainer.now) (numbers_in matches.now)) }
+    ensures room { vec_capacity ids.new ≡ vec_capacity ids.old }
 {
-    let mut ids = DenseHashSet::new(alloc);
+    ids.clear();
     for info in matches {
-        if let Some(item) = explainer.item(info.match_id) {
-            ids.insert(item.id)?;
-        }
+        push_id(explainer, info.match_id, ids);
     }
-    Ok(ids)
+    ids.sort_unstable();
+    ids.dedup();
 }
 
-/// The report under the ids that the items were added under, ascending and each once.
-pub(crate) fn report_of(
-    alloc: Global,
-    explainer: &Explainer,
-    matches: &[MatchInfo],
-    with_content: bool,
-) -> Result<Vec<MatchInfo>, AllocError>
-    ensures { IfOk result (λ report. report.items ≡ report_under (items_of explainer.now) with_content matches.now) }
+/// Adds the id of an item, if there is such an item and room.
+fn push_id(explainer: &Explainer, number: MatchId, ids: &mut Vec<MatchId>)
+    ensures pushed { length ids.old.items < vec_capacity ids.old
+        → ids.new.items ≡ ids.old.items ++ ids_under (items_of explainer.now) (number ∷ []) }
+    ensures room { vec_capacity ids.new ≡ vec_capacity ids.old }
 {
-    let mut report = Vec::new(alloc);
-    let ids = ids_of(alloc, explainer, matches)?;
-    for match_id in ids.iter() {
-        report.push(MatchInfo {
-            match_id,
-            with_content,
-        })?;
+    if let Some(item) = explainer.item(number) {
+        if ids.len() < ids.capacity() {
+            ids.push_reserved(item.id);
+        }
     }
-    Ok(report)
 }

@@ -2,14 +2,14 @@
 
 use crate::builder::MatcherBuilder;
 use crate::error::MatcherError;
-use crate::explaining::{item_numbers, numbers_around, report_of};
+use crate::explaining::{item_numbers, list_ids, numbers_around};
 use crate::handed::hand_tag;
 use crate::laws::{item_laws, run_laws};
 use crate::open_element::{OpenElement, OpenElements};
 use crate::past::{Note, Past};
 use crate::tags::{Answered, drop_request, end_tag, finish_tag, replace_value, start_tag};
 use lol_base::{AuxStartTagInfo, Namespace};
-use lol_memory::{MatchInfo, SharedMemoryLimiter};
+use lol_memory::{MatchId, MatchInfo, SharedMemoryLimiter};
 use lol_program::{Ast, Tries};
 use lol_reasons::{Explainer, Reason};
 use lol_vm::{AuxStartTagInfoRequest, SelectorMatchingVm};
@@ -101,19 +101,20 @@ impl Matcher {
 }
 
 impl<T: Drop> Matcher<T> {
-    ghost use Rattle.std.specs.Prelude.{◌≡◌, ◌≤◌, ◌↔◌, [], true, false, None, Err, IfOk, OnOk, IfErr, IsSome, drop, length, map};
+    ghost use Rattle.std.specs.Prelude.{◌≡◌, ◌≤◌, ◌↔◌, [], true, false, None, Err, IfOk, OnOk, IfErr, IsSome, drop, length, map, vec_capacity};
     ghost use Rattle.lol_base.specs.StartTags.{RangesAreInside, StartTag};
     ghost use Rattle.lol_instructions.specs.Tries.{names_counted, attributes_counted};
     ghost use Rattle.lol_stack.specs.Calls.{IsCalledAtEach};
     ghost use Rattle.lol_matcher.specs.Answering.{Answers, IfWaits, IsAnsweredAfter, IsFinishedAs, OpensFor, OpensStart, last_value, reported_in, told_after, refused_with, with_ended, with_told, with_value};
     ghost use Rattle.lol_matcher.specs.Building.{Building, started_with};
-    ghost use Rattle.lol_matcher.specs.Explaining.{AreNumbered, ForTexts, ReportsFor, reasons_told, report_under};
+    ghost use Rattle.lol_matcher.specs.Explaining.{AreNumbered, ForTexts, ids_with_reasons, reasons_told};
     ghost use Rattle.lol_matcher.specs.Keeping.{IsRefusal};
     ghost use Rattle.lol_matcher.specs.Last.{HasTries, last_answer, last_opens, matches_in};
     ghost use Rattle.lol_matcher.specs.Noted.{finished_told, handed, handed_told};
     ghost use Rattle.lol_matcher.specs.Refusing.{Fits, RefusesStart, RefusesStartWith, RefusesFinish, refusal_of};
     ghost use Rattle.lol_matcher.specs.Told.{elements_of, heard, numbers_open};
-    ghost use Rattle.lol_reasons.specs.Numbered.{items_of, reason_shown};
+    ghost use Rattle.lol_reasons.specs.Numbered.{reason_shown};
+    ghost use Rattle.lol_vm.specs.ReportRoom.{HoldsEachReport};
     ghost use Rattle.lol_vm.specs.Views.{match_of, selectors};
     ghost use Rattle.lol_vm.specs.Vms.{IsTriedAtMost, Stands, data_in, open_after};
 
@@ -226,18 +227,28 @@ impl<T: Drop> Matcher<T> {
         explainer.reasons(&self.vm, &matched, number, &around)
     }
 
-    /// What the last tag was reported under, by the ids of the texts whose items are the selectors (`explain`).
+    /// An empty list with room for every report by the ids of texts (`report`).
     ///
     /// # Errors
-    /// Out of memory, which it takes for the answer and for a set of ids. Nothing changes, so it may be asked for again.
-    pub fn report(&self, alloc: Global, explainer: &Explainer) -> Result<Vec<MatchInfo>, AllocError>
-        ensures reported { IfOk result (λ report. ForTexts explainer.now self.now (λ texts.
-            ReportsFor self.now.opened (reasons_told texts self.now.told) report.items)) }
-        ensures plain { IfOk result (λ report. report.items
-            ≡ report_under (items_of explainer.now) self.now.opened self.now.matched) }
+    /// Out of memory.
+    pub fn list_for_ids(&self, alloc: Global) -> Result<Vec<MatchId>, AllocError>
+        ensures empty { IfOk result (λ ids. ids.items ≡ []) }
+        ensures room { IfOk result (λ ids. self.now.failed ≡ false
+            → HoldsEachReport (selectors self.now.told.ast) (vec_capacity ids)) }
+    {
+        Vec::with_capacity(alloc, self.matches.capacity())
+    }
+
+    /// Lists what the last tag was reported under by the ids of the texts whose items are the selectors (`explain`), ascending and each once. It
+    /// takes no memory, and is whole in a list with room for each report (`list_for_ids`).
+    pub fn report(&self, explainer: &Explainer, ids: &mut Vec<MatchId>)
+        ensures reported { HoldsEachReport (selectors self.now.told.ast) (vec_capacity ids.old)
+            → ForTexts explainer.now self.now (λ texts. ids.new.items ≡ ids_with_reasons texts self.now.told) }
+        ensures none { self.now.failed ≡ true → ids.new.items ≡ [] }
+        ensures room { vec_capacity ids.new ≡ vec_capacity ids.old }
     {
         item_laws();
-        report_of(alloc, explainer, self.matches.as_slice(), self.opened)
+        list_ids(explainer, self.matches.as_slice(), ids);
     }
 
     /// A start tag: it is reported, or its attributes are asked for. A start tag that waits for its attributes is dropped.

@@ -9,7 +9,7 @@ use Rattle.lol_matcher.specs.Noted.{finished, finished_told, handed}
 use Rattle.lol_matcher.specs.Refusing.{refusal_of}
 use Rattle.lol_matcher.specs.Told.{Matching}
 use Rattle.zugrenja_c.specs.Tags.{given_tag, given_told, outline_of}
-use Rattle.zugrenja_c.specs.declared.matching.AttributePlace.{AttributePlace}
+use Rattle.zugrenja_c.specs.declared.attribute_places.AttributePlace.{AttributePlace}
 
 -- what is so of a value that is there
 pub weaker_of_some : {A : Type 0} {P Q : A → Type 0} (o : Option A) → ((a : A) → P a → Q a) → IsSomeAnd o P → IsSomeAnd o Q

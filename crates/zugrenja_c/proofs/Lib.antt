@@ -5,3 +5,4 @@ pub mod Buffers
 pub mod Closings
 pub mod ReasonTables
 pub mod Finishes
+pub mod Runs

@@ -4,4 +4,4 @@ pub mod Sessions
 pub mod Tags
 pub mod Texts
 pub mod Reasons
-pub mod Explaining
+pub mod Runs

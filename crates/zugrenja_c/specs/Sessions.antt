@@ -1,137 +1,115 @@
--- What a handle stands for, and what its calls do.
-use Rattle.std.specs.Prelude.{ℕ, ◌≡◌, ◌||◌, nat_le, length, false, List, Option, Some, None, Result, Ok, Err}
+-- What a handle stands for, and how a matcher is made.
+use Rattle.std.specs.Prelude.{ℕ, ◌≡◌, ◌<◌, ◌+◌, ◌||◌, nat_le, if◌then◌else◌, length, map, max, Bool, true, false, List, [], ◌∷◌, ◌++◌, ◌↔◌, Option, Some, None, Result, Ok, Err, IsSomeAnd}
+use Rattle.lol_css.specs.Accepting.{accept}
+use Rattle.lol_css.specs.Trees.{Items}
 use Rattle.lol_css.specs.declared.error.ErrorLocation.{ErrorLocation}
 use Rattle.lol_css.specs.declared.error.SelectorError.{SelectorError}
 use Rattle.lol_instructions.specs.Tries.{names_counted, attributes_counted}
-use Rattle.lol_explaining_matcher.specs.Explaining.{Explaining}
-use Rattle.lol_explaining_matcher.specs.Preparing.{Preparing}
 use Rattle.lol_program.specs.Asts.{pairs_of, nodes_of, is_with_rows}
-use Rattle.lol_matcher.specs.Building.{Building, IsRefused, started_with}
+use Rattle.lol_reasons.specs.Numbered.{HasItemsOf, texts_in}
+use Rattle.lol_reasons.specs.declared.texts.Texts.{Texts}
+use Rattle.lol_vm.specs.Views.{selectors}
+use Rattle.lol_matcher.specs.Building.{Adds, Building, IsRefused, KeepsPairs, started_with}
+use Rattle.lol_matcher.specs.Explaining.{ids_with_reasons}
 use Rattle.lol_matcher.specs.Told.{Matching}
 use Rattle.lol_matcher.specs.declared.error.AddError.{AddError}
 use Rattle.lol_matcher.specs.declared.error.AddError.TheVariants.{Refused, Memory}
-use Rattle.zugrenja_c.specs.Explaining.{has_opened}
 use Rattle.zugrenja_c.specs.Numbers.{cause_number, combinator_of}
+use Rattle.zugrenja_c.specs.Runs.{Run}
+use Rattle.zugrenja_c.specs.declared.adding.Adding.{Adding}
 use Rattle.zugrenja_c.specs.declared.status.Refusal.{Refusal}
 use Rattle.zugrenja_c.specs.declared.session.Session.{Session}
 use Rattle.zugrenja_c.specs.declared.session.Session.TheVariants as session
 
--- 1. Matchers that don't explain
+-- 1. A handle
 
--- There is a matcher that doesn't explain, to which selectors are added, and this holds of it.
-abbrev pub IsAdding : Option Session → (Building → Type 0) → Type 0
+-- There is a matcher to which selectors are added, and this holds of it.
+abbrev pub IsAdding : Option Session → (Adding → Type 0) → Type 0
 IsAdding None holds = ⊥
 IsAdding (Some (session.Adding b)) holds = holds b
-IsAdding (Some (session.Matching m)) holds = ⊥
-IsAdding (Some (session.AddingExplained b)) holds = ⊥
-IsAdding (Some (session.Explaining m)) holds = ⊥
+IsAdding (Some (session.Matching r)) holds = ⊥
 
--- There is a matcher that doesn't explain, which is told of tags, and this holds of it.
-abbrev pub IsMatching : Option Session → (Matching ℕ → Type 0) → Type 0
+-- If there is one, this holds of it.
+abbrev pub IfAdding : Option Session → (Adding → Type 0) → Type 0
+IfAdding None holds = Unit {0}
+IfAdding (Some (session.Adding b)) holds = holds b
+IfAdding (Some (session.Matching r)) holds = Unit {0}
+
+-- There is a matcher which is told of tags, and this holds of it.
+abbrev pub IsMatching : Option Session → (Run → Type 0) → Type 0
 IsMatching None holds = ⊥
 IsMatching (Some (session.Adding b)) holds = ⊥
-IsMatching (Some (session.Matching m)) holds = holds m
-IsMatching (Some (session.AddingExplained b)) holds = ⊥
-IsMatching (Some (session.Explaining m)) holds = ⊥
+IsMatching (Some (session.Matching r)) holds = holds r
 
--- There is a matcher to which selectors are added, and this holds of it, unless it explains.
-abbrev pub IfAdding : Option Session → (Building → Type 0) → Type 0
-IfAdding None holds = ⊥
-IfAdding (Some (session.Adding b)) holds = holds b
-IfAdding (Some (session.Matching m)) holds = ⊥
-IfAdding (Some (session.AddingExplained b)) holds = Unit {0}
-IfAdding (Some (session.Explaining m)) holds = ⊥
+-- If there is one, this holds of it.
+abbrev pub IfMatching : Option Session → (Run → Type 0) → Type 0
+IfMatching None holds = Unit {0}
+IfMatching (Some (session.Adding b)) holds = Unit {0}
+IfMatching (Some (session.Matching r)) holds = holds r
 
--- There is a matcher which is told of tags, and this holds of it, unless it explains.
-abbrev pub IfMatching : Option Session → (Matching ℕ → Type 0) → Type 0
-IfMatching None holds = ⊥
-IfMatching (Some (session.Adding b)) holds = ⊥
-IfMatching (Some (session.Matching m)) holds = holds m
-IfMatching (Some (session.AddingExplained b)) holds = ⊥
-IfMatching (Some (session.Explaining m)) holds = Unit {0}
+-- If selectors are added before a call, they are after it, and this holds of the two.
+abbrev pub StaysAdding : Option Session → Option Session → (Adding → Adding → Type 0) → Type 0
+StaysAdding old new holds = IfAdding old (λ b. IsAdding new (λ c. holds b c))
 
--- There is a matcher which is told of tags, before a call and after it, and this holds of the two, unless it explains.
-abbrev pub StaysMatching : Option Session → Option Session → (Matching ℕ → Matching ℕ → Type 0) → Type 0
-StaysMatching old new holds = IfMatching old (λ m. IsMatching new (λ n. holds m n))
-
--- 2. Matchers that explain
-
--- There is a matcher that explains, to which selectors are added, and this holds of it.
-abbrev pub IsAddingExplained : Option Session → (Preparing → Type 0) → Type 0
-IsAddingExplained None holds = ⊥
-IsAddingExplained (Some (session.Adding b)) holds = ⊥
-IsAddingExplained (Some (session.Matching m)) holds = ⊥
-IsAddingExplained (Some (session.AddingExplained b)) holds = holds b
-IsAddingExplained (Some (session.Explaining m)) holds = ⊥
-
--- There is a matcher that explains, which is told of tags, and this holds of it.
-abbrev pub IsExplaining : Option Session → (Explaining ℕ → Type 0) → Type 0
-IsExplaining None holds = ⊥
-IsExplaining (Some (session.Adding b)) holds = ⊥
-IsExplaining (Some (session.Matching m)) holds = ⊥
-IsExplaining (Some (session.AddingExplained b)) holds = ⊥
-IsExplaining (Some (session.Explaining m)) holds = holds m
-
--- If there is a matcher that explains, to which selectors are added, this holds of it.
-abbrev pub IfAddingExplained : Option Session → (Preparing → Type 0) → Type 0
-IfAddingExplained None holds = Unit {0}
-IfAddingExplained (Some (session.Adding b)) holds = Unit {0}
-IfAddingExplained (Some (session.Matching m)) holds = Unit {0}
-IfAddingExplained (Some (session.AddingExplained b)) holds = holds b
-IfAddingExplained (Some (session.Explaining m)) holds = Unit {0}
-
--- If there is a matcher that explains, which is told of tags, this holds of it.
-abbrev pub IfExplaining : Option Session → (Explaining ℕ → Type 0) → Type 0
-IfExplaining None holds = Unit {0}
-IfExplaining (Some (session.Adding b)) holds = Unit {0}
-IfExplaining (Some (session.Matching m)) holds = Unit {0}
-IfExplaining (Some (session.AddingExplained b)) holds = Unit {0}
-IfExplaining (Some (session.Explaining m)) holds = holds m
-
--- If selectors are added to a matcher that explains before a call, they are after it, and this holds of the two.
-abbrev pub StaysAddingExplained : Option Session → Option Session → (Preparing → Preparing → Type 0) → Type 0
-StaysAddingExplained old new holds = IfAddingExplained old (λ b. IsAddingExplained new (λ c. holds b c))
-
--- If a matcher that explains is told of tags before a call, it is after it, and this holds of the two.
-abbrev pub StaysExplaining : Option Session → Option Session → (Explaining ℕ → Explaining ℕ → Type 0) → Type 0
-StaysExplaining old new holds = IfExplaining old (λ m. IsExplaining new (λ n. holds m n))
-
--- 3. Both
+-- If a matcher is told of tags before a call, it is after it, with the same texts, and this holds of the two.
+abbrev pub StaysMatching : Option Session → Option Session → (Run → Run → Type 0) → Type 0
+StaysMatching old new holds = IfMatching old (λ r. IsMatching new (λ s. (s.texts ≡ r.texts) × holds r s))
 
 -- There is a matcher to which selectors are added.
 abbrev pub IsUnbuilt : Option Session → Type 0
-IsUnbuilt None = ⊥
-IsUnbuilt (Some (session.Adding b)) = Unit {0}
-IsUnbuilt (Some (session.Matching m)) = ⊥
-IsUnbuilt (Some (session.AddingExplained b)) = Unit {0}
-IsUnbuilt (Some (session.Explaining m)) = ⊥
+IsUnbuilt s = IsAdding s (λ _. Unit {0})
 
 -- There is a matcher which is told of tags.
 abbrev pub IsBuilt : Option Session → Type 0
-IsBuilt None = ⊥
-IsBuilt (Some (session.Adding b)) = ⊥
-IsBuilt (Some (session.Matching m)) = Unit {0}
-IsBuilt (Some (session.AddingExplained b)) = ⊥
-IsBuilt (Some (session.Explaining m)) = Unit {0}
+IsBuilt s = IsMatching s (λ _. Unit {0})
 
--- There is a matcher which is told of tags, and the last has opened no element.
-abbrev pub HasOpenedNone : Option Session → Type 0
-HasOpenedNone None = ⊥
-HasOpenedNone (Some (session.Adding b)) = ⊥
-HasOpenedNone (Some (session.Matching m)) = m.opened ≡ false
-HasOpenedNone (Some (session.AddingExplained b)) = ⊥
-HasOpenedNone (Some (session.Explaining m)) = has_opened m ≡ false
+-- 2. Selectors
 
--- 4. Refusals, rows, and what is built
+-- A matcher that explains has texts from the start; another has none.
+abbrev pub HasNoTexts : Bool → Option Texts → Type 0
+HasNoTexts explains None = explains ≡ false
+HasNoTexts explains (Some texts) = (explains ≡ true) × (texts_in texts ≡ [])
+
+-- There are no selectors yet, with these settings.
+pub record IsFresh (explains : Bool) (max_memory element_bytes esi : ℕ) (b : Adding) : Type 0 where
+  pub pairs : pairs_of b.settings.ast ≡ []
+  pub nodes : nodes_of b.settings.ast ≡ []
+  pub memory : b.settings.max_memory ≡ max_memory
+  pub bytes : b.settings.element_bytes ≡ max element_bytes 1
+  pub void : (b.settings.esi ≡ false) ↔ (esi ≡ 0)
+  pub texts : HasNoTexts explains b.texts
+
+-- settings with the selectors of others
+abbrev pub with_tree : Building → Building → Building
+with_tree settings other = record settings { ast = other.ast }
+
+-- An accepted text comes: its selectors under its id or, where texts are kept, the text itself.
+abbrev pub TextComes : ℕ → List ℕ → Option Texts → Adding → Adding → Type 0
+TextComes id text None old new = Adds id text old.settings.ast new.settings.ast × (new ≡ record old { settings = with_tree old.settings new.settings })
+TextComes id text (Some texts) old new =
+    (items : Items)
+    × (accept text ≡ Ok items)
+    × IsSomeAnd new.texts (λ more. texts_in more ≡ texts_in texts ++ record { id = id; items = items } ∷ [])
+    × (new.settings ≡ old.settings)
+
+-- Out of memory it doesn't.
+abbrev pub TextIsLeft : ℕ → List ℕ → Option Texts → Adding → Adding → Type 0
+TextIsLeft id text None old new = KeepsPairs id text old.settings.ast new.settings.ast × (new ≡ record old { settings = with_tree old.settings new.settings })
+TextIsLeft id text (Some texts) old new = IsSomeAnd new.texts (λ same. texts_in same ≡ texts_in texts) × (new.settings ≡ old.settings)
+
+-- What adding a text under an id does, by its status.
+pub record AddsText (status id : ℕ) (text : List ℕ) (old new : Adding) : Type 0 where
+  pub added : status ≡ 0 → TextComes id text old.texts old new
+  pub memory : status ≡ 4 → TextIsLeft id text old.texts old new
 
 -- a refusal for a cause, in a place, as C gets it
-abbrev pub refusal_of : SelectorError → ErrorLocation → Refusal
-refusal_of cause location = record { cause = cause_number cause; combinator = combinator_of cause; item = location.item; offset = location.offset }
+abbrev pub refusal_written : SelectorError → ErrorLocation → Refusal
+refusal_written cause location = record { cause = cause_number cause; combinator = combinator_of cause; item = location.item; offset = location.offset }
 
 -- What an outcome of adding a text writes, with this status: the refusal of a text that isn't accepted.
 abbrev pub IsAddedAs : Result (Unit {0}) AddError → ℕ → Refusal → Refusal → Type 0
 IsAddedAs (Ok done) status old new = (status ≡ 0) × (new ≡ old)
-IsAddedAs (Err (Refused cause location)) status old new = (status ≡ 10) × (new ≡ refusal_of cause location)
+IsAddedAs (Err (Refused cause location)) status old new = (status ≡ 10) × (new ≡ refusal_written cause location)
 IsAddedAs (Err Memory) status old new = (status ≡ 4) × (new ≡ old)
 
 -- A text isn't accepted, for this cause and in this place.
@@ -139,17 +117,26 @@ pub record IsNotAccepted (text : List ℕ) (refusal : Refusal) : Type 0 where
   pub cause : SelectorError
   pub location : ErrorLocation
   pub refused : IsRefused text (Refused cause location)
-  pub written : refusal ≡ refusal_of cause location
+  pub written : refusal ≡ refusal_written cause location
 
--- A matcher will have rows if so many nodes were added, or if it would have had them. Nothing else changes.
-pub record HasRowsFrom (fewest : ℕ) (old new : Building) : Type 0 where
-  pub pairs : pairs_of new.ast ≡ pairs_of old.ast
-  pub nodes : nodes_of new.ast ≡ nodes_of old.ast
-  pub rows : is_with_rows new.ast ≡ (is_with_rows old.ast || nat_le fewest (length (nodes_of old.ast)))
-  pub rest : new ≡ record old { ast = new.ast }
+-- 3. Rows, and what is built
+
+-- A matcher that doesn't explain will have rows if so many nodes were added, or if it would have had them. Nothing else changes.
+pub record HasRowsFrom (fewest : ℕ) (old new : Adding) : Type 0 where
+  pub plain : old.texts ≡ None
+  pub pairs : pairs_of new.settings.ast ≡ pairs_of old.settings.ast
+  pub nodes : nodes_of new.settings.ast ≡ nodes_of old.settings.ast
+  pub rows : is_with_rows new.settings.ast ≡ (is_with_rows old.settings.ast || nat_le fewest (length (nodes_of old.settings.ast)))
+  pub rest : new ≡ record old { settings = with_tree old.settings new.settings }
+
+-- A matcher has the selectors that were added or, where texts were, their items, each under its number.
+abbrev pub HasSelectorsOf : Option Texts → Building → Matching ℕ → Type 0
+HasSelectorsOf None settings m = m.told.ast ≡ settings.ast
+HasSelectorsOf (Some texts) settings m = HasItemsOf (texts_in texts) (selectors m.told.ast)
 
 -- A matcher was built, and told of nothing yet.
-pub record IsBuiltFrom (b : Building) (m : Matching ℕ) : Type 0 where
-  pub told : m ≡ started_with b m.tries
-  pub names : names_counted m.tries ≡ 0
-  pub attributes : attributes_counted m.tries ≡ 0
+pub record IsBuiltFrom (b : Adding) (r : Run) : Type 0 where
+  pub texts : r.texts ≡ b.texts
+  pub has_selectors : HasSelectorsOf b.texts b.settings r.matcher
+  pub told : r.matcher ≡ started_with (record b.settings { ast = r.matcher.told.ast }) r.matcher.tries
+  pub untried : (names_counted r.matcher.tries ≡ 0) × (attributes_counted r.matcher.tries ≡ 0)

@@ -57,7 +57,7 @@ cause_text cause combinator =
     else get_or cause_texts cause (codes "unknown cause")
 
 -- what a status says, or, of a text that isn't accepted, its cause
-abbrev pub text_of : ℕ → ℕ → ℕ → List ℕ
-text_of status cause combinator =
+abbrev pub text_for : ℕ → ℕ → ℕ → List ℕ
+text_for status cause combinator =
     if nat_eq status 10 then cause_text cause combinator
     else get_or status_texts status (codes "unknown status")

@@ -3,7 +3,7 @@
 ghost use Rattle.std.specs.Prelude.{◌≡◌, ◌++◌, ◌∷◌, [], ℕ, List, Option, IfOk, length, map};
 ghost use Rattle.lol_matcher.specs.declared.open_element.OpenElement.{OpenElement};
 ghost use Rattle.zugrenja_c.specs.Numbers.{overwritten};
-ghost use Rattle.zugrenja_c.specs.Tags.{HasClosed, value_of};
+ghost use Rattle.zugrenja_c.specs.Tags.{HasClosed, value_given};
 
 use lol_matcher::OpenElement;
 use std::alloc::{AllocError, Global};
@@ -47,7 +47,7 @@ impl Closing {
     /// Writes the values, as far as there is room.
     pub(crate) fn write(&self, values: &mut [u64])
         ensures { (elements : List (OpenElement ℕ)) → HasClosed (length values.old) elements self.now
-            → values.new ≡ overwritten (map value_of elements) values.old }
+            → values.new ≡ overwritten (map value_given elements) values.old }
     {
         let fitting = self.values.len().min(values.len());
         values[..fitting].copy_from_slice(&self.values[..fitting]);

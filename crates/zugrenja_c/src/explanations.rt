@@ -1,16 +1,14 @@
 //! A matcher that explains: it is made, and asked why the last tag was reported.
 
-ghost use Rattle.std.specs.Prelude.{◌≡◌, ◌≢◌, ◌↔◌, [], ◌∷◌, None, true, false, max, is_some};
-ghost use Rattle.lol_reasons.specs.Numbered.{texts_in};
-ghost use Rattle.zugrenja_c.specs.Explaining.{WritesLines, WritesReasons};
+ghost use Rattle.std.specs.Prelude.{◌≡◌, ◌≢◌, ◌↔◌, [], ◌∷◌, None, true, is_some};
 ghost use Rattle.zugrenja_c.specs.Numbers.{IsOneOf};
-ghost use Rattle.zugrenja_c.specs.Sessions.{IsAddingExplained, IsExplaining, IsMatching, IsUnbuilt};
+ghost use Rattle.zugrenja_c.specs.Reasons.{WritesLines, WritesReasons};
+ghost use Rattle.zugrenja_c.specs.Sessions.{IsAdding, IsFresh, IsMatching, IsUnbuilt};
 
 use crate::handle::Handle;
+use crate::making::begin;
 use crate::reasons::ReasonPlace;
-use crate::session::Session;
-use crate::status::{GOOD, IN_USE, NO_MATCHER, OUT_OF_MEMORY};
-use lol_explaining_matcher::ExplainingMatcher;
+use crate::status::NO_MATCHER;
 use std::alloc::Global;
 
 /// As `zugrenja_new`, but the matcher explains.
@@ -22,27 +20,13 @@ pub extern "C" fn zugrenja_new_explaining(
     element_bytes: usize,
     esi: u32,
 ) -> u32
-    ensures made { result ≡ 0 → IsAddingExplained handle.new.slot.value (λ b.
-        (texts_in b.texts ≡ []) × (b.max_memory ≡ max_memory)
-        × (b.element_bytes ≡ max element_bytes 1) × ((b.esi ≡ false) ↔ (esi ≡ 0))) }
+    ensures made { result ≡ 0 → IsAdding handle.new.slot.value (λ b.
+        IsFresh true max_memory element_bytes esi b) }
     ensures in_use { (result ≡ 6) ↔ (is_some handle.old.slot.value ≡ true) }
     ensures unchanged { result ≢ 0 → handle.new.slot.value ≡ handle.old.slot.value }
     ensures statuses { IsOneOf (0 ∷ 4 ∷ 6 ∷ []) result }
 {
-    if handle.is_live() {
-        return IN_USE;
-    }
-    let mut builder = ExplainingMatcher::builder(alloc);
-    builder.max_memory(max_memory);
-    builder.element_bytes(element_bytes);
-    builder.enable_esi_tags(esi != 0);
-    match Box::new(alloc, Session::AddingExplained(builder)) {
-        Ok(session) => {
-            handle.put(session);
-            GOOD
-        }
-        Err(_) => OUT_OF_MEMORY,
-    }
+    begin(alloc, handle, true, max_memory, element_bytes, esi)
 }
 
 /// Why the last tag was reported: a reason for each item that matches its element, in the order of adding and of the list. With it come the
@@ -57,12 +41,12 @@ pub extern "C" fn zugrenja_explain(
     reasons_count: &mut usize,
     numbers_count: &mut usize,
 ) -> u32
-    ensures explained { result ≡ 0 → IsExplaining handle.old.slot.value (λ m.
-        WritesReasons m reasons.old reasons.new numbers.old numbers.new reasons_count.new numbers_count.new) }
+    ensures explained { result ≡ 0 → IsMatching handle.old.slot.value (λ r.
+        WritesReasons r reasons.old reasons.new numbers.old numbers.new reasons_count.new numbers_count.new) }
     ensures rest { result ≢ 0 → (reasons.new ≡ reasons.old) × (numbers.new ≡ numbers.old) }
     ensures none { result ≢ 0 → (reasons_count.new ≡ 0) × (numbers_count.new ≡ 0) }
-    ensures memory { result ≡ 4 → IsExplaining handle.old.slot.value (λ _. Unit {0}) }
-    ensures not_explaining { (result ≡ 19) ↔ IsMatching handle.old.slot.value (λ _. Unit {0}) }
+    ensures memory { result ≡ 4 → IsMatching handle.old.slot.value (λ r. is_some r.texts ≡ true) }
+    ensures not_explaining { (result ≡ 19) ↔ IsMatching handle.old.slot.value (λ r. r.texts ≡ None) }
     ensures not_built { (result ≡ 7) ↔ IsUnbuilt handle.old.slot.value }
     ensures no_matcher { (result ≡ 5) ↔ (handle.old.slot.value ≡ None) }
     ensures statuses { IsOneOf (0 ∷ 4 ∷ 5 ∷ 7 ∷ 19 ∷ []) result }
@@ -88,11 +72,11 @@ pub extern "C" fn zugrenja_explain_text(
     out: &mut [u8],
     written: &mut usize,
 ) -> u32
-    ensures explained { result ≡ 0 → IsExplaining handle.old.slot.value (λ m.
-        WritesLines m out.old out.new written.new) }
+    ensures explained { result ≡ 0 → IsMatching handle.old.slot.value (λ r.
+        WritesLines r out.old out.new written.new) }
     ensures rest { result ≢ 0 → (out.new ≡ out.old) × (written.new ≡ 0) }
-    ensures memory { result ≡ 4 → IsExplaining handle.old.slot.value (λ _. Unit {0}) }
-    ensures not_explaining { (result ≡ 19) ↔ IsMatching handle.old.slot.value (λ _. Unit {0}) }
+    ensures memory { result ≡ 4 → IsMatching handle.old.slot.value (λ r. is_some r.texts ≡ true) }
+    ensures not_explaining { (result ≡ 19) ↔ IsMatching handle.old.slot.value (λ r. r.texts ≡ None) }
     ensures not_built { (result ≡ 7) ↔ IsUnbuilt handle.old.slot.value }
     ensures no_matcher { (result ≡ 5) ↔ (handle.old.slot.value ≡ None) }
     ensures statuses { IsOneOf (0 ∷ 4 ∷ 5 ∷ 7 ∷ 19 ∷ []) result }

@@ -1,15 +1,16 @@
 //! The program for callers in C, as a static library: bindings/c/zugrenja.h declares what is here.
 #![tactic(auto)]
 
+mod adding;
+mod attribute_places;
 mod closing;
-mod explaining;
 mod explanations;
 mod handle;
 mod making;
-mod matching;
 mod raw_box;
 mod reasons;
 mod reports;
+mod running;
 mod session;
 mod status;
 mod tags;

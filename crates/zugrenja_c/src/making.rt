@@ -1,20 +1,16 @@
 //! From zeros to a matcher, and back.
 
-ghost use Rattle.std.specs.Prelude.{◌≡◌, ◌≢◌, ◌<◌, ◌+◌, ◌↔◌, [], ◌∷◌, None, true, false, length, max, is_some};
+ghost use Rattle.std.specs.Prelude.{◌≡◌, ◌≢◌, ◌<◌, ◌+◌, ◌↔◌, [], ◌∷◌, None, true, false, length, is_some, IsSomeAnd};
 ghost use Rattle.std.specs.Str.{IsUtf8};
-ghost use Rattle.lol_explaining_matcher.specs.Preparing.{StartsWith};
-ghost use Rattle.lol_program.specs.Asts.{pairs_of, nodes_of};
-ghost use Rattle.lol_matcher.specs.Building.{Adds, KeepsPairs};
 ghost use Rattle.lol_reasons.specs.Explanations.{added_by};
 ghost use Rattle.lol_reasons.specs.Numbered.{texts_in};
-ghost use Rattle.zugrenja_c.specs.Explaining.{AddsExplained};
 ghost use Rattle.zugrenja_c.specs.Numbers.{IsOneOf};
-ghost use Rattle.zugrenja_c.specs.Sessions.{HasRowsFrom, IfAdding, IfAddingExplained, IsAdding, IsAddingExplained, IsBuilt, IsBuiltFrom, IsExplaining, IsMatching, IsNotAccepted, IsUnbuilt, StaysAddingExplained};
+ghost use Rattle.zugrenja_c.specs.Sessions.{AddsText, HasRowsFrom, IsAdding, IsBuilt, IsBuiltFrom, IsFresh, IsMatching, IsNotAccepted, IsUnbuilt, StaysAdding};
 
+use crate::adding::Adding;
 use crate::handle::Handle;
 use crate::session::Session;
 use crate::status::{GOOD, IN_USE, NO_MATCHER, OUT_OF_MEMORY, Refusal, TOO_MANY_ITEMS};
-use lol_matcher::Matcher;
 use std::alloc::Global;
 
 /// Makes a matcher without selectors, in a handle that has none: open elements may be charged for `max_memory` bytes, each for
@@ -28,8 +24,25 @@ pub extern "C" fn zugrenja_new(
     esi: u32,
 ) -> u32
     ensures made { result ≡ 0 → IsAdding handle.new.slot.value (λ b.
-        (pairs_of b.ast ≡ []) × (nodes_of b.ast ≡ []) × (b.max_memory ≡ max_memory)
-        × (b.element_bytes ≡ max element_bytes 1) × ((b.esi ≡ false) ↔ (esi ≡ 0))) }
+        IsFresh false max_memory element_bytes esi b) }
+    ensures in_use { (result ≡ 6) ↔ (is_some handle.old.slot.value ≡ true) }
+    ensures unchanged { result ≢ 0 → handle.new.slot.value ≡ handle.old.slot.value }
+    ensures statuses { IsOneOf (0 ∷ 4 ∷ 6 ∷ []) result }
+{
+    begin(alloc, handle, false, max_memory, element_bytes, esi)
+}
+
+/// Puts a matcher without selectors into a handle that has none.
+pub(crate) fn begin(
+    alloc: Global,
+    handle: &mut Handle,
+    explains: bool,
+    max_memory: usize,
+    element_bytes: usize,
+    esi: u32,
+) -> u32
+    ensures made { result ≡ 0 → IsAdding handle.new.slot.value (λ b.
+        IsFresh explains max_memory element_bytes esi b) }
     ensures in_use { (result ≡ 6) ↔ (is_some handle.old.slot.value ≡ true) }
     ensures unchanged { result ≢ 0 → handle.new.slot.value ≡ handle.old.slot.value }
     ensures statuses { IsOneOf (0 ∷ 4 ∷ 6 ∷ []) result }
@@ -37,11 +50,8 @@ pub extern "C" fn zugrenja_new(
     if handle.is_live() {
         return IN_USE;
     }
-    let mut builder = Matcher::builder(alloc);
-    builder.max_memory(max_memory);
-    builder.element_bytes(element_bytes);
-    builder.enable_esi_tags(esi != 0);
-    match Box::new(alloc, Session::Adding(builder)) {
+    let adding = Adding::new(alloc, explains, max_memory, element_bytes, esi);
+    match Box::new(alloc, Session::Adding(adding)) {
         Ok(session) => {
             handle.put(session);
             GOOD
@@ -59,13 +69,9 @@ pub extern "C" fn zugrenja_add(
     text: &[u8],
     refusal: &mut Refusal,
 ) -> u32
-    ensures added { result ≡ 0 → IfAdding handle.old.slot.value (λ b. IsAdding handle.new.slot.value (λ c.
-        Adds id text.now b.ast c.ast × (c ≡ record b { ast = c.ast }))) }
-    ensures memory { result ≡ 4 → IfAdding handle.old.slot.value (λ b. IsAdding handle.new.slot.value (λ c.
-        KeepsPairs id text.now b.ast c.ast × (c ≡ record b { ast = c.ast }))) }
-    ensures explaining { StaysAddingExplained handle.old.slot.value handle.new.slot.value (λ b c.
-        AddsExplained result id text.now b c) }
-    ensures not_accepted { result ≡ 10 → IsUnbuilt handle.old.slot.value × IsNotAccepted text.now refusal.new }
+    ensures added { StaysAdding handle.old.slot.value handle.new.slot.value (λ b c.
+        AddsText result id text.now b c) }
+    ensures not_accepted { result ≡ 10 → IsNotAccepted text.now refusal.new }
     ensures no_matcher { (result ≡ 5) ↔ (handle.old.slot.value ≡ None) }
     ensures built { (result ≡ 8) ↔ IsBuilt handle.old.slot.value }
     ensures not_utf8 { (result ≡ 9) ↔ (IsUnbuilt handle.old.slot.value × (¬ (IsUtf8 text.now))) }
@@ -77,7 +83,7 @@ pub extern "C" fn zugrenja_add(
         return NO_MATCHER;
     }
     let mut session = handle.take(alloc);
-    let status = session.add(id, text, refusal);
+    let status = session.add(alloc, id, text, refusal);
     handle.put(session);
     status
 }
@@ -87,9 +93,9 @@ pub extern "C" fn zugrenja_add(
 /// memory. A matcher that explains spares none.
 #[unsafe(no_mangle)]
 pub extern "C" fn zugrenja_with_rows(alloc: Global, handle: &mut Handle, fewest: usize) -> u32
-    ensures made { result ≡ 0 → IsAdding handle.old.slot.value (λ b. IsAdding handle.new.slot.value (λ c.
-        HasRowsFrom fewest b c)) }
-    ensures explains { (result ≡ 21) ↔ IsAddingExplained handle.old.slot.value (λ _. Unit {0}) }
+    ensures made { result ≡ 0 → StaysAdding handle.old.slot.value handle.new.slot.value (λ b c.
+        HasRowsFrom fewest b c) }
+    ensures explains { (result ≡ 21) ↔ IsAdding handle.old.slot.value (λ b. is_some b.texts ≡ true) }
     ensures no_matcher { (result ≡ 5) ↔ (handle.old.slot.value ≡ None) }
     ensures built { (result ≡ 8) ↔ IsBuilt handle.old.slot.value }
     ensures statuses { IsOneOf (0 ∷ 5 ∷ 8 ∷ 21 ∷ []) result }
@@ -108,13 +114,11 @@ pub extern "C" fn zugrenja_with_rows(alloc: Global, handle: &mut Handle, fewest:
 /// there are more items of selectors than ids, 4,294,967,296.
 #[unsafe(no_mangle)]
 pub extern "C" fn zugrenja_build(alloc: Global, handle: &mut Handle) -> u32
-    ensures built { result ≡ 0 → IfAdding handle.old.slot.value (λ b. IsMatching handle.new.slot.value (λ m.
-        IsBuiltFrom b m)) }
-    ensures explaining { result ≡ 0 → IfAddingExplained handle.old.slot.value (λ b.
-        IsExplaining handle.new.slot.value (λ m. StartsWith b m)) }
+    ensures built { result ≡ 0 → IsAdding handle.old.slot.value (λ b. IsMatching handle.new.slot.value (λ r.
+        IsBuiltFrom b r)) }
     ensures memory { result ≡ 4 → IsUnbuilt handle.old.slot.value × (handle.new.slot.value ≡ None) }
-    ensures too_many { result ≡ 20 → IsAddingExplained handle.old.slot.value (λ b.
-        (u32.MAX + 1 < length (added_by (texts_in b.texts))) × (handle.new.slot.value ≡ None)) }
+    ensures too_many { result ≡ 20 → IsAdding handle.old.slot.value (λ b. IsSomeAnd b.texts (λ texts.
+        u32.MAX + 1 < length (added_by (texts_in texts)))) × (handle.new.slot.value ≡ None) }
     ensures no_matcher { (result ≡ 5) ↔ (handle.old.slot.value ≡ None) }
     ensures twice { (result ≡ 8) ↔ IsBuilt handle.old.slot.value }
     ensures statuses { IsOneOf (0 ∷ 4 ∷ 5 ∷ 8 ∷ 20 ∷ []) result }

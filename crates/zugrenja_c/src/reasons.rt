@@ -4,9 +4,9 @@ ghost use Rattle.std.specs.Prelude.{◌≡◌, ◌∷◌, [], ◌++◌, List, If
 ghost use Rattle.lol_reasons.specs.Explanations as shown;
 ghost use Rattle.lol_reasons.specs.Numbered.{reason_shown};
 ghost use Rattle.zugrenja_c.specs.Numbers.{overwritten};
-ghost use Rattle.zugrenja_c.specs.Reasons.{HasReasons, reason_lines};
+ghost use Rattle.zugrenja_c.specs.Reasons.{HasReasons, lines_of_reasons};
 
-use lol_explaining_matcher::Reason;
+use lol_matcher::Reason;
 use lol_script::push_reason;
 use std::alloc::{AllocError, Global};
 
@@ -96,7 +96,7 @@ fn add_outermost_first(numbers: &mut Vec<usize>, witness: &[usize]) -> Result<()
 
 /// Reasons as lines.
 pub(crate) fn lines_of(alloc: Global, told: &[Reason]) -> Result<Vec<u8>, AllocError>
-    ensures { IfOk result (λ lines. lines.items ≡ reason_lines (map reason_shown told.now)) }
+    ensures { IfOk result (λ lines. lines.items ≡ lines_of_reasons (map reason_shown told.now)) }
 {
     let mut lines = Vec::new(alloc);
     for reason in told {

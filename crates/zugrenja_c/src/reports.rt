@@ -3,9 +3,8 @@
 ghost use Rattle.std.specs.Prelude.{◌≡◌, ◌≢◌, ◌↔◌, [], ◌∷◌, None, length, if◌then◌else◌};
 ghost use Rattle.lol_instructions.specs.Tries.{names_counted, attributes_counted};
 ghost use Rattle.zugrenja_c.specs.Numbers.{IsOneOf, overwritten};
-ghost use Rattle.zugrenja_c.specs.Explaining.{WritesIds, has_opened};
-ghost use Rattle.zugrenja_c.specs.Sessions.{IfExplaining, IfMatching, IsUnbuilt};
-ghost use Rattle.zugrenja_c.specs.Tags.{ids_of};
+ghost use Rattle.zugrenja_c.specs.Runs.{ids_matched};
+ghost use Rattle.zugrenja_c.specs.Sessions.{IfMatching, IsUnbuilt};
 
 use crate::handle::Handle;
 use crate::status::NO_MATCHER;
@@ -19,10 +18,8 @@ pub extern "C" fn zugrenja_ids(
     ids: &mut [u32],
     matched: &mut usize,
 ) -> u32
-    ensures ids { result ≡ 0 → IfMatching handle.old.slot.value (λ m.
-        (ids.new ≡ overwritten (ids_of m) ids.old) × (matched.new ≡ length m.matched)) }
-    ensures explaining { result ≡ 0 → IfExplaining handle.old.slot.value (λ m.
-        WritesIds m ids.old ids.new matched.new) }
+    ensures ids { result ≡ 0 → IfMatching handle.old.slot.value (λ r.
+        (ids.new ≡ overwritten (ids_matched r) ids.old) × (matched.new ≡ length (ids_matched r))) }
     ensures rest { result ≢ 0 → (ids.new ≡ ids.old) × (matched.new ≡ 0) }
     ensures not_built { (result ≡ 7) ↔ IsUnbuilt handle.old.slot.value }
     ensures no_matcher { (result ≡ 5) ↔ (handle.old.slot.value ≡ None) }
@@ -42,10 +39,8 @@ pub extern "C" fn zugrenja_ids(
 /// Whether the last tag has opened an element: 1, or 0.
 #[unsafe(no_mangle)]
 pub extern "C" fn zugrenja_has_opened(alloc: Global, handle: &mut Handle, opened: &mut u32) -> u32
-    ensures opened { result ≡ 0 → IfMatching handle.old.slot.value (λ m.
-        opened.new ≡ (if m.opened then 1 else 0)) }
-    ensures explaining { result ≡ 0 → IfExplaining handle.old.slot.value (λ m.
-        opened.new ≡ (if has_opened m then 1 else 0)) }
+    ensures opened { result ≡ 0 → IfMatching handle.old.slot.value (λ r.
+        opened.new ≡ (if r.matcher.opened then 1 else 0)) }
     ensures rest { result ≢ 0 → opened.new ≡ 0 }
     ensures not_built { (result ≡ 7) ↔ IsUnbuilt handle.old.slot.value }
     ensures no_matcher { (result ≡ 5) ↔ (handle.old.slot.value ≡ None) }
@@ -70,10 +65,8 @@ pub extern "C" fn zugrenja_tries(
     names: &mut u64,
     attributes: &mut u64,
 ) -> u32
-    ensures tries { result ≡ 0 → IfMatching handle.old.slot.value (λ m.
-        (names.new ≡ names_counted m.tries) × (attributes.new ≡ attributes_counted m.tries)) }
-    ensures explaining { result ≡ 0 → IfExplaining handle.old.slot.value (λ m.
-        (names.new ≡ names_counted m.items.tries) × (attributes.new ≡ attributes_counted m.items.tries)) }
+    ensures tries { result ≡ 0 → IfMatching handle.old.slot.value (λ r.
+        (names.new ≡ names_counted r.matcher.tries) × (attributes.new ≡ attributes_counted r.matcher.tries)) }
     ensures rest { result ≢ 0 → (names.new ≡ 0) × (attributes.new ≡ 0) }
     ensures not_built { (result ≡ 7) ↔ IsUnbuilt handle.old.slot.value }
     ensures no_matcher { (result ≡ 5) ↔ (handle.old.slot.value ≡ None) }

@@ -2,7 +2,7 @@
 
 ghost use Rattle.std.specs.Prelude.{◌≡◌, IfSome};
 ghost use Rattle.zugrenja_c.specs.Numbers.{cause_number, error_number, numbered_namespace};
-ghost use Rattle.zugrenja_c.specs.Sessions.{refusal_of};
+ghost use Rattle.zugrenja_c.specs.Sessions.{refusal_written};
 
 use lol_matcher::{ErrorLocation, MatcherError, Namespace, SelectorError};
 
@@ -91,7 +91,7 @@ pub struct Refusal {
 impl Refusal {
     /// For this cause, in this place.
     pub(crate) fn of(cause: SelectorError, location: ErrorLocation) -> Refusal
-        ensures { result ≡ refusal_of cause location }
+        ensures { result ≡ refusal_written cause location }
     {
         Refusal {
             cause: number_of_cause(cause),

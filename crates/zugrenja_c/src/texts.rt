@@ -2,7 +2,7 @@
 
 ghost use Rattle.std.specs.Prelude.{◌≡◌, ◌≤◌, length};
 ghost use Rattle.zugrenja_c.specs.Numbers.{overwritten};
-ghost use Rattle.zugrenja_c.specs.Texts.{cause_text, text_of};
+ghost use Rattle.zugrenja_c.specs.Texts.{cause_text, text_for};
 
 use crate::status::Refusal;
 use lol_matcher::ErrorMessage;
@@ -37,7 +37,7 @@ fn cause_text(cause: u32, combinator: u32) -> &'static str
 
 /// What a status says, or, of a text that isn't accepted, its cause.
 fn text_of(status: u32, cause: u32, combinator: u32) -> &'static str
-    ensures text { result.now ≡ text_of status cause combinator }
+    ensures text { result.now ≡ text_for status cause combinator }
     ensures bound { length result.now ≤ 96 }
 {
     match status {
@@ -70,8 +70,8 @@ fn text_of(status: u32, cause: u32, combinator: u32) -> &'static str
 /// Returns the length of all of it. `cause` and `combinator` are the refusal's, and count with status 10 alone. Takes no memory.
 #[unsafe(no_mangle)]
 pub extern "C" fn zugrenja_text(status: u32, cause: u32, combinator: u32, out: &mut [u8]) -> usize
-    ensures text { out.new ≡ overwritten (text_of status cause combinator) out.old }
-    ensures length { result ≡ length (text_of status cause combinator) }
+    ensures text { out.new ≡ overwritten (text_for status cause combinator) out.old }
+    ensures length { result ≡ length (text_for status cause combinator) }
     ensures bound { result ≤ 96 }
 {
     let text = text_of(status, cause, combinator).as_bytes();

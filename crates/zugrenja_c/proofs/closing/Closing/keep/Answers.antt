@@ -2,16 +2,16 @@
 use Rattle.std.proofs.Common.{arith, ◌<◌, ◌≤◌, length, map, take, ◌++◌, ◌∷◌, [], ◌∙◌, sym, ap}
 use Rattle.std.specs.Prelude.{vec_capacity}
 use Rattle.std.proofs.lemmas.List.{map-append}
-use Rattle.zugrenja_c.specs.Tags.{value_of}
+use Rattle.zugrenja_c.specs.Tags.{value_given}
 use Rattle.zugrenja_c.proofs.Closings.{counts_one, keeps_none, keeps_one}
 use Rattle.zugrenja_c.proofs.closing.Closing.keep.Goals as goal
 use Rattle.zugrenja_c.proofs.closing.Closing.keep.Goals.{then-len-capacity, else-len-capacity}
 
 pub returns : goal.returns
 returns c room elements was =
-    let vs = map value_of elements in
-    let v = value_of c.args.element in
-    let all = ap (take room) (sym (map-append value_of elements (c.args.element ∷ []))) in
+    let vs = map value_given elements in
+    let v = value_given c.args.element in
+    let all = ap (take room) (sym (map-append value_given elements (c.args.element ∷ []))) in
     let len = c.len.ensures in
     let capacity = c.capacity.ensures in
     let kept = ap length was.values in
