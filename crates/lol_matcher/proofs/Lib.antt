@@ -12,3 +12,4 @@ pub mod Walks
 pub mod Finishing
 pub mod Collected
 pub mod Reasoned
+pub mod Plainly

@@ -8,3 +8,4 @@ pub mod Answering
 pub mod Building
 pub mod Explaining
 pub mod ExplainingLaws
+pub mod Plain

@@ -6,9 +6,13 @@ ghost use Rattle.lol_vm.specs.VmLaws.{DataChangeNothing, DataKeepOpen, DataKeepR
 ghost use Rattle.lol_reasons.specs.NumberingLaws.{NumbersNameWhatMatches};
 ghost use Rattle.lol_reasons.specs.ReasonLaws.{EachHasOneReason};
 ghost use Rattle.lol_laws.specs.AskedRuns.{AskedRunsAnswerAlike, ToldGoesOn};
+ghost use Rattle.lol_matcher.specs.Plain.{ItemsAnswerAsTexts};
 
 use lol_laws::run_laws::asked_runs_answer_alike;
-use lol_reasons::laws::{numbers_name_what_matches, reasons_explain_reports};
+use lol_reasons::laws::{
+    numbers_change_reports_alone, numbers_name_what_matches, reasons_explain_reports,
+    texts_add_pairs,
+};
 use lol_vm::machine_laws::documents_are_ordered;
 use lol_vm::vm_laws::{
     data_change_nothing, dropped_requests_stand, last_data_are_lent, reports_are_few,
@@ -22,6 +26,17 @@ pub fn calls_answer_alike()
     ensures goes_on { ToldGoesOn }
 {
     asked_runs_answer_alike();
+}
+
+/// Selectors that have the items of texts under their numbers (`Texts::number_items`) answer as the texts' own, which report the ids of the
+/// reasons (`Matcher::report`): after the same tags the same elements are open, for the same reasons; the same attributes are asked for, the
+/// same tags are refused, and as many nodes are tried.
+pub fn items_answer_as_texts()
+    ensures { ItemsAnswerAsTexts }
+{
+    numbers_change_reports_alone();
+    texts_add_pairs();
+    reasons_explain_reports();
 }
 
 /// What a machine has of the document of the events that it stands for.
