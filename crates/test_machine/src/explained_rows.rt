@@ -1,9 +1,8 @@
 //! Rows: selectors and tags, and the reasons for the last tag, told by hand: a wrong definition of witnesses, with its code, fails.
 
-use crate::pages::{Selectors, is_reason, matcher_of, reports_ids_of};
-use crate::told::{explain, is_told};
+use crate::told::is_told;
 use lol_base::Attributes;
-use lol_explaining_matcher::{ExplainingMatcher, Reason};
+use lol_matcher::{Explainer, Matcher, Numbering, Reason, Texts, read_selector};
 use std::alloc::{AllocError, Global};
 use std::process::Abort;
 use std::test::Fail;
@@ -12,8 +11,12 @@ use test_kit::{TagWord, attributes_of, words_of};
 /// An id, the numbers of a text and of an item, and a witness.
 type Expected = (u32, usize, usize, &'static [usize]);
 
-/// Selectors and tags, and the reasons for the last tag.
-type Row = (Selectors<'static>, &'static str, &'static [Expected]);
+/// Selectors under ids and tags, and the reasons for the last tag.
+type Row = (
+    &'static [(&'static str, u32)],
+    &'static str,
+    &'static [Expected],
+);
 
 const ROWS: [Row; 11] = [
     // The nearest div, then the nearest one above it.
@@ -91,9 +94,40 @@ fn is_one(reason: &Reason, expected: &Expected) -> bool {
     is_reason(reason, id, text, item, witness)
 }
 
+pub(crate) fn is_reason(
+    reason: &Reason,
+    id: u32,
+    text: usize,
+    item: usize,
+    witness: &[usize],
+) -> bool {
+    reason.item.id == id
+        && reason.item.text == text
+        && reason.item.item == item
+        && reason.witness.as_slice() == witness
+}
+
+fn numbering_of(alloc: Global, selectors: &[(&str, u32)]) -> Result<Numbering, Fail> {
+    let mut texts = Texts::new(alloc);
+    for (text, id) in selectors {
+        texts.add(*id, read_selector(alloc, text)?)?;
+    }
+    Ok(texts.number_items()?)
+}
+
+/// A matcher of the items of selectors, and what explains its reports.
+fn matcher_of(alloc: Global, selectors: &[(&str, u32)]) -> Result<(Matcher, Explainer), Fail> {
+    let Numbering { ast, mut explainer } = numbering_of(alloc, selectors)?;
+    let mut builder = Matcher::builder(alloc);
+    builder.set_tree(ast);
+    let matcher = builder.build()?;
+    explainer.index(matcher.machine().program())?;
+    Ok((matcher, explainer))
+}
+
 /// Tells of all the tags, and answers whether each was answered.
 fn are_answered(
-    matcher: &mut ExplainingMatcher,
+    matcher: &mut Matcher,
     at_hand: bool,
     tags: &[TagWord<'_>],
     attributes: &[Attributes],
@@ -107,7 +141,7 @@ fn are_answered(
 
 fn are_told(
     alloc: Global,
-    matcher: &mut ExplainingMatcher,
+    matcher: &mut Matcher,
     at_hand: bool,
     tags: &str,
 ) -> Result<bool, AllocError> {
@@ -116,31 +150,13 @@ fn are_told(
     Ok(are_answered(matcher, at_hand, &words, &attributes))
 }
 
-/// Whether the last tag has these reasons, and is reported under their ids.
-fn is_expected(
-    alloc: Global,
-    matcher: &ExplainingMatcher,
-    expected: &[Expected],
-) -> Result<bool, AllocError> {
-    let reasons = explain(matcher)?;
-    Ok(are_expected(&reasons, expected) && reports_ids_of(alloc, matcher, &reasons)?)
-}
-
 /// Whether all tags are answered, and the last one has these reasons.
-fn explains(
-    alloc: Global,
-    matcher: &mut ExplainingMatcher,
-    at_hand: bool,
-    tags: &str,
-    expected: &[Expected],
-) -> Result<bool, AllocError> {
-    Ok(are_told(alloc, matcher, at_hand, tags)? && is_expected(alloc, matcher, expected)?)
-}
-
 fn last_has(alloc: Global, at_hand: bool, row: &Row) -> Result<bool, Fail> {
     let (selectors, tags, expected) = *row;
-    let mut matcher = matcher_of(alloc, selectors)?;
-    Ok(explains(alloc, &mut matcher, at_hand, tags, expected)?)
+    let (mut matcher, explainer) = matcher_of(alloc, selectors)?;
+    let answered = are_told(alloc, &mut matcher, at_hand, tags)?;
+    let reasons = matcher.explain(alloc, &explainer)?;
+    Ok(answered && are_expected(&reasons, expected))
 }
 
 fn check(rt: &impl Abort, alloc: Global, rows: &[Row]) -> Result<(), Fail> {

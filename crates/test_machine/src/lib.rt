@@ -3,8 +3,6 @@
 #![tactic(auto)]
 
 #[cfg(test)]
-mod calls;
-#[cfg(test)]
 mod errors;
 #[cfg(test)]
 mod explained_page;
@@ -20,8 +18,6 @@ mod machines;
 mod matchers;
 #[cfg(test)]
 mod page;
-#[cfg(test)]
-mod pages;
 #[cfg(test)]
 mod passed_on;
 #[cfg(test)]

@@ -1,21 +1,16 @@
-//! The calls of explaining matchers. Each stands in a function that promises nothing: what its contract says is met there once, and no
-//! test carries it along.
+//! The calls of matchers that rows are told with. Each stands in a function that promises nothing: what its contract says is met there once,
+//! and no test carries it along.
 
 use lol_base::Attributes;
-use lol_explaining_matcher::{ExplainingMatcher, MatcherError, Namespace, Reason, Started};
-use std::alloc::AllocError;
+use lol_matcher::{Matcher, MatcherError, Namespace, Started};
 use test_kit::TagWord;
 
-fn start(
-    matcher: &mut ExplainingMatcher,
-    name: &str,
-    ns: Namespace,
-) -> Result<Started, MatcherError> {
+fn start(matcher: &mut Matcher, name: &str, ns: Namespace) -> Result<Started, MatcherError> {
     matcher.start(name.as_bytes(), ns)
 }
 
 fn finish(
-    matcher: &mut ExplainingMatcher,
+    matcher: &mut Matcher,
     attributes: &Attributes,
     self_closing: bool,
 ) -> Result<(), MatcherError> {
@@ -23,7 +18,7 @@ fn finish(
 }
 
 fn start_with(
-    matcher: &mut ExplainingMatcher,
+    matcher: &mut Matcher,
     name: &str,
     ns: Namespace,
     attributes: &Attributes,
@@ -32,17 +27,13 @@ fn start_with(
     matcher.start_with(name.as_bytes(), ns, attributes.aux_info(self_closing))
 }
 
-fn end(matcher: &mut ExplainingMatcher, name: &str) {
+fn end(matcher: &mut Matcher, name: &str) {
     matcher.end(name.as_bytes());
-}
-
-pub(crate) fn explain(matcher: &ExplainingMatcher) -> Result<Vec<Reason>, AllocError> {
-    matcher.explain()
 }
 
 /// Tells of a tag, with its attributes at hand, or only if they are asked for, and says whether it is answered.
 pub(crate) fn is_told(
-    matcher: &mut ExplainingMatcher,
+    matcher: &mut Matcher,
     tag: &TagWord<'_>,
     attributes: &Attributes,
     at_hand: bool,

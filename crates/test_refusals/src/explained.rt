@@ -12,11 +12,17 @@ type Machine = SelectorMatchingVm<Element>;
 /// `div p, p` under 7, the start tags `div` and `p`, and why the second is reported. A call that is refused is made again, and answers as
 /// if it hadn't been.
 pub(crate) fn explained(alloc: Global) -> Result<Met, Stop> {
+    let (numbering, numbered) = number_text(alloc)?;
+    let given = explain_numbered(alloc, numbering)?;
+    Ok(numbered.and(given))
+}
+
+/// The items of `div p, p` under 7, each under its number.
+pub(crate) fn number_text(alloc: Global) -> Result<(Numbering, Met), Stop> {
     let mut texts = Texts::new(alloc);
     let added = add_in_turn(alloc, &mut texts)?;
     let (numbering, numbered) = number_in_turn(&texts)?;
-    let given = explain_numbered(alloc, numbering)?;
-    Ok(added.and(numbered).and(given))
+    Ok((numbering, added.and(numbered)))
 }
 
 /// Makes a machine of the numbered items, and asks it for the reasons.

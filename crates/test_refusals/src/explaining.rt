@@ -1,91 +1,63 @@
-//! The life of a matcher that explains: each request for memory can be refused.
+//! A matcher that explains: the list for the ids of its reports and the reasons can be refused.
 
-use crate::explained::are_both;
-use crate::lists::are_ids;
-use crate::outcome::{Met, Stop, TURNS, expect};
-use lol_explaining_matcher::{ExplainingMatcher, ExplainingMatcherBuilder};
-use lol_matcher::{AddError, Attributes, MatcherError, Namespace};
-use lol_reasons::NumberingError;
+use crate::explained::{are_both, number_text};
+use crate::outcome::{Met, Stop, TURNS};
+use lol_matcher::{Explainer, MatchId, Matcher, MatcherError, Namespace, Numbering};
+use lol_program::Ast;
 use std::alloc::Global;
 
-/// `div p, p` under 7, the start tags `div` and `p`, and why the second is reported. What is refused before the first tag, or when it asks
-/// for reasons, is asked for again; after a refused tag nothing is reported, nor explained.
+/// `div p, p` under 7, the start tags `div` and `p`, and why the second is reported. A call that is refused is made again, and answers as
+/// if it hadn't been.
 pub(crate) fn explaining_matcher(alloc: Global) -> Result<Met, Stop> {
-    let mut builder = ExplainingMatcher::builder(alloc);
-    let added = add_in_turn(&mut builder)?;
-    let told = build_and_tell(alloc, builder)?;
-    Ok(added.and(told))
+    let (numbering, numbered) = number_text(alloc)?;
+    let Numbering { ast, mut explainer } = numbering;
+    let matcher = told(alloc, ast)?;
+    explainer.index(matcher.machine().program())?;
+    let reported = report(alloc, &matcher, &explainer)?;
+    let explained = explain_in_turn(alloc, &matcher, &explainer)?;
+    Ok(numbered.and(reported).and(explained))
 }
 
-fn built(builder: ExplainingMatcherBuilder) -> Result<ExplainingMatcher, NumberingError> {
-    builder.build()
+/// A matcher that was told of both tags; the memory is the scenario's own.
+fn told(alloc: Global, ast: Ast) -> Result<Matcher, Stop> {
+    let mut builder = Matcher::builder(alloc);
+    builder.set_tree(ast);
+    let mut matcher = builder.build()?;
+    start(&mut matcher, b"div")?;
+    start(&mut matcher, b"p")?;
+    Ok(matcher)
 }
 
-fn build_and_tell(alloc: Global, builder: ExplainingMatcherBuilder) -> Result<Met, Stop> {
-    match built(builder) {
-        Ok(mut matcher) => tell(alloc, &mut matcher),
-        Err(error) => {
-            expect(error == NumberingError::Memory)?;
-            Ok(Met::Refusal)
-        }
+fn start(matcher: &mut Matcher, name: &[u8]) -> Result<(), Stop> {
+    match matcher.start(name, Namespace::Html) {
+        Ok(_) => Ok(()),
+        Err(MatcherError::Memory) => Err(Stop::Own),
+        Err(_) => Err(Stop::Wrong),
     }
 }
 
-fn add_in_turn(builder: &mut ExplainingMatcherBuilder) -> Result<Met, Stop> {
+/// Lists what the second tag was reported under.
+fn report(alloc: Global, matcher: &Matcher, explainer: &Explainer) -> Result<Met, Stop> {
+    let (mut ids, listed) = list_in_turn(alloc, matcher)?;
+    matcher.report(explainer, &mut ids);
+    listed.if_holds(ids.as_slice() == [7].as_slice())
+}
+
+fn list_in_turn(alloc: Global, matcher: &Matcher) -> Result<(Vec<MatchId>, Met), Stop> {
     for met in TURNS {
-        match builder.add(7, "div p, p") {
-            Ok(()) => return Ok(met),
-            Err(error) => expect(error == AddError::Memory)?,
+        if let Ok(ids) = matcher.list_for_ids(alloc) {
+            return Ok((ids, met));
         }
     }
     Err(Stop::Wrong)
 }
 
-/// Tells of the tags, up to one that memory is refused for, and asks why the second is reported.
-fn tell(alloc: Global, matcher: &mut ExplainingMatcher) -> Result<Met, Stop> {
-    let none = Attributes::new(alloc);
-    let started = start_both(matcher, &none);
-    match started {
-        Ok(()) => explain_in_turn(matcher),
-        Err(error) => stuck(matcher, error),
-    }
-}
-
-/// Tells of `div` and, if there was memory, of `p`.
-fn start_both(matcher: &mut ExplainingMatcher, none: &Attributes) -> Result<(), MatcherError> {
-    start(matcher, b"div", none)?;
-    start(matcher, b"p", none)
-}
-
-fn start(
-    matcher: &mut ExplainingMatcher,
-    name: &[u8],
-    none: &Attributes,
-) -> Result<(), MatcherError> {
-    matcher.start_with(name, Namespace::Html, none.aux_info(false))
-}
-
-/// Asks why the second tag is reported, again after a refusal.
-fn explain_in_turn(matcher: &ExplainingMatcher) -> Result<Met, Stop> {
-    expect(has_ids(matcher, &[7]))?;
+/// Asks why the second tag was reported.
+fn explain_in_turn(alloc: Global, matcher: &Matcher, explainer: &Explainer) -> Result<Met, Stop> {
     for met in TURNS {
-        if let Ok(reasons) = matcher.explain() {
-            return met.if_holds(are_both(&reasons) && has_ids(matcher, &[7]));
+        if let Ok(reasons) = matcher.explain(alloc, explainer) {
+            return met.if_holds(are_both(&reasons));
         }
     }
     Err(Stop::Wrong)
-}
-
-/// What stands after a refusal.
-fn stuck(matcher: &ExplainingMatcher, error: MatcherError) -> Result<Met, Stop> {
-    expect(error == MatcherError::Memory && matcher.has_failed() && has_ids(matcher, &[]))?;
-    let Ok(reasons) = matcher.explain() else {
-        return Err(Stop::Wrong);
-    };
-    expect(reasons.is_empty())?;
-    Ok(Met::Refusal)
-}
-
-fn has_ids(matcher: &ExplainingMatcher, ids: &[u32]) -> bool {
-    are_ids(matcher.matches(), ids)
 }

@@ -1,4 +1,0 @@
-pub mod Explaining
-pub mod Plain
-pub mod PlainLaws
-pub mod Preparing
