@@ -1,11 +1,12 @@
 //! The attributes of a tag, found when they are asked for.
 
-ghost use Rattle.std.specs.Prelude.{◌≡◌, ◌+◌, ◌++◌, ◌<◌, ◌≤◌, ◌^◌, [], length, take, All, OnOk, OnErr};
+ghost use Rattle.std.specs.Prelude.{◌≡◌, ◌+◌, ◌++◌, ◌<◌, ◌≤◌, ◌^◌, [], length, take, if◌then◌else◌, All, OnOk, OnErr};
 ghost use Rattle.lol_base.specs.StartTags.{OutlineIsInside};
 ghost use Rattle.lol_tags.specs.Runs.{with_some, run, given};
 ghost use Rattle.lol_tags.specs.Attributes.{is_attribute_name, is_in_attribute, is_quoted, is_value, begins, completes, behind_name, noted_attribute, outline_at, attribute_step, attribute_ended, outlines_of};
-ghost use Rattle.lol_tags.specs.Idling.{quote};
+ghost use Rattle.lol_tags.specs.Idling.{quote, MayName};
 
+use crate::front::{begins_quoted, name_len};
 use crate::reader::idle_len;
 use crate::state::State;
 use lol_base::{AttributeBuffer, AttributeOutline, Range};
@@ -104,9 +105,105 @@ impl AttributeReader {
         }
     }
 
-    // Skips the bytes of a quoted value that are at the front: how many.
+    // Reads what can be read at once at the front: how many bytes.
     #[inline(always)]
     fn skip(&mut self, rest: &[u8]) -> usize
+        requires room { self.old.at + length rest.now < 2 ^ 64 }
+        ensures within { result ≤ length rest.now }
+        ensures after { self.new ≡ run attribute_step self.old (take result rest.now) }
+        ensures none { given attribute_step attribute_ended self.old (take result rest.now) ≡ [] }
+        ensures at { self.new.at ≡ self.old.at + result }
+    {
+        let begun = self.read_name(rest);
+        begun + self.skip_quoted(&rest[begun..])
+    }
+
+    // Reads on in a name, and up to its value.
+    #[inline(always)]
+    #[tactic(auto, unfolding(crate::specs::Idling::may_name))]
+    fn read_name(&mut self, rest: &[u8]) -> usize
+        requires room { self.old.at + length rest.now < 2 ^ 64 }
+        ensures within { result ≤ length rest.now }
+        ensures after { self.new ≡ run attribute_step self.old (take result rest.now) }
+        ensures none { given attribute_step attribute_ended self.old (take result rest.now) ≡ [] }
+        ensures at { self.new.at ≡ self.old.at + result }
+    {
+        match self.state {
+            State::BeforeAttributeName => self.go_on_with_name(rest),
+            State::AttributeName => self.go_on_with_name(rest),
+            _ => 0,
+        }
+    }
+
+    // Reads the bytes of a name, and up to its value.
+    #[inline(always)]
+    fn go_on_with_name(&mut self, rest: &[u8]) -> usize
+        requires name { MayName self.old.state }
+        requires room { self.old.at + length rest.now < 2 ^ 64 }
+        ensures within { result ≤ length rest.now }
+        ensures after { self.new ≡ run attribute_step self.old (take result rest.now) }
+        ensures none { given attribute_step attribute_ended self.old (take result rest.now) ≡ [] }
+        ensures at { self.new.at ≡ self.old.at + result }
+    {
+        let name = self.skip_name(rest);
+        name + self.skip_equals_sign(&rest[name..])
+    }
+
+    // Reads the bytes of a name.
+    #[inline(always)]
+    fn skip_name(&mut self, rest: &[u8]) -> usize
+        requires name { MayName self.old.state }
+        requires room { self.old.at + length rest.now < 2 ^ 64 }
+        ensures within { result ≤ length rest.now }
+        ensures after { self.new ≡ run attribute_step self.old (take result rest.now) }
+        ensures none { given attribute_step attribute_ended self.old (take result rest.now) ≡ [] }
+        ensures at { self.new.at ≡ self.old.at + result }
+    {
+        let len = name_len(rest);
+        if len > 0 {
+            self.name_start = self.first();
+            self.state = State::AttributeName;
+            self.at += len;
+            self.name_end = self.at;
+            self.value_start = self.at - 1;
+        }
+        len
+    }
+
+    // Where the name begins that the next byte goes on with.
+    #[inline(always)]
+    fn first(&self) -> usize
+        ensures { result ≡ (if is_attribute_name self.now.state then self.now.name_start else self.now.at) }
+    {
+        if is_attribute_name(self.state) {
+            self.name_start
+        } else {
+            self.at
+        }
+    }
+
+    // Reads an equals sign behind a name and the double quote behind it.
+    #[inline(always)]
+    fn skip_equals_sign(&mut self, rest: &[u8]) -> usize
+        requires room { self.old.at + length rest.now < 2 ^ 64 }
+        ensures within { result ≤ length rest.now }
+        ensures after { self.new ≡ run attribute_step self.old (take result rest.now) }
+        ensures none { given attribute_step attribute_ended self.old (take result rest.now) ≡ [] }
+        ensures at { self.new.at ≡ self.old.at + result }
+    {
+        if is_attribute_name(self.state) && begins_quoted(rest) {
+            self.state = State::AttributeValueDoubleQuoted;
+            self.at += 2;
+            self.value_start = self.at;
+            2
+        } else {
+            0
+        }
+    }
+
+    // Skips the bytes of a quoted value that are at the front: how many.
+    #[inline(always)]
+    fn skip_quoted(&mut self, rest: &[u8]) -> usize
         requires room { self.old.at + length rest.now < 2 ^ 64 }
         ensures within { result ≤ length rest.now }
         ensures after { self.new ≡ run attribute_step self.old (take result rest.now) }
@@ -215,7 +312,7 @@ fn completes(from: State, to: State) -> bool
 
 #[inline(always)]
 #[tactic(auto, unfolding(crate::specs::Attributes::is_attribute_name))]
-fn is_attribute_name(state: State) -> bool
+pub(crate) fn is_attribute_name(state: State) -> bool
     ensures { result ≡ is_attribute_name state }
 {
     match state {

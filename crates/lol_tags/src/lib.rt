@@ -3,6 +3,7 @@
 
 mod attributes;
 mod error;
+mod front;
 pub mod laws;
 mod reader;
 pub mod rows;

@@ -3,9 +3,11 @@
 ghost use Rattle.std.specs.Prelude.{◌≡◌, ◌↔◌, ◌+◌, ◌++◌, ◌<◌, ◌≤◌, ◌^◌, [], length, take, IsErr, IsTrue, IfNone, IfSome, IfOk, OnOk, OnErr};
 ghost use Rattle.lol_tags.specs.Runs.{with_some};
 ghost use Rattle.lol_tags.specs.Reading.{with_byte, script, has_raw_text, text_state, is_named, is_script, noted, step, ended, closed, fresh, after, tags_from, told_foreign, unfinished};
-ghost use Rattle.lol_tags.specs.Idling.{Lacks};
+ghost use Rattle.lol_tags.specs.Idling.{Lacks, MaySpell, MayName};
 
+use crate::attributes::is_attribute_name;
 use crate::error::{FeedError, StreamTooLong};
+use crate::front::{begins_quoted, letters, name_len, space_len};
 use crate::state::State;
 use crate::transitions::is_letter;
 use memchr::memchr;
@@ -80,7 +82,7 @@ const TWELVE_LETTERS: u64 = 36_028_797_018_963_968;
 
 // The code of a name with one more byte.
 #[inline(always)]
-fn with_byte(code: u64, b: u8) -> u64
+pub(crate) fn with_byte(code: u64, b: u8) -> u64
     ensures { result ≡ with_byte code b }
 {
     if code < TWELVE_LETTERS && is_letter(b) {
@@ -293,9 +295,143 @@ impl TagReader {
         }
     }
 
-    // Skips bytes at the front that leave the state as it is: how many.
+    // Reads what can be read at once at the front: how many bytes.
     #[inline(always)]
     fn skip(&mut self, rest: &[u8]) -> usize
+        requires room { self.old.at + length rest.now < 2 ^ 64 }
+        ensures within { result ≤ length rest.now }
+        ensures after { self.new ≡ after self.old (take result rest.now) }
+        ensures tags { tags_from self.old (take result rest.now) ≡ [] }
+        ensures at { self.new.at ≡ self.old.at + result }
+    {
+        let begun = self.read_name(rest);
+        begun + self.skip_idle(&rest[begun..])
+    }
+
+    // Reads on in a tag's name, or up to an attribute's value.
+    #[inline(always)]
+    #[tactic(auto, unfolding(crate::specs::Idling::may_spell, crate::specs::Idling::may_name))]
+    fn read_name(&mut self, rest: &[u8]) -> usize
+        requires room { self.old.at + length rest.now < 2 ^ 64 }
+        ensures within { result ≤ length rest.now }
+        ensures after { self.new ≡ after self.old (take result rest.now) }
+        ensures tags { tags_from self.old (take result rest.now) ≡ [] }
+        ensures at { self.new.at ≡ self.old.at + result }
+    {
+        match self.state {
+            State::TagOpen => self.spell_letters(rest),
+            State::EndTagOpen => self.spell_letters(rest),
+            State::TagName => self.spell_letters(rest),
+            State::BeforeAttributeName => self.begin_attribute(rest),
+            State::AttributeName => self.go_on_with_name(rest),
+            _ => 0,
+        }
+    }
+
+    // Reads the letters of a tag's name.
+    #[inline(always)]
+    fn spell_letters(&mut self, rest: &[u8]) -> usize
+        requires name { MaySpell self.old.state }
+        requires room { self.old.at + length rest.now < 2 ^ 64 }
+        ensures within { result ≤ length rest.now }
+        ensures after { self.new ≡ after self.old (take result rest.now) }
+        ensures tags { tags_from self.old (take result rest.now) ≡ [] }
+        ensures at { self.new.at ≡ self.old.at + result }
+    {
+        let (len, code) = letters(self.code, rest);
+        if len > 0 {
+            self.state = State::TagName;
+            self.code = code;
+            self.at += len as u64;
+            self.name_end = self.at;
+        }
+        len
+    }
+
+    // Reads up to an attribute's value.
+    #[inline(always)]
+    #[tactic(auto, unfolding(crate::specs::Idling::may_name))]
+    fn begin_attribute(&mut self, rest: &[u8]) -> usize
+        requires before { self.old.state ≡ State.BeforeAttributeName }
+        requires room { self.old.at + length rest.now < 2 ^ 64 }
+        ensures within { result ≤ length rest.now }
+        ensures after { self.new ≡ after self.old (take result rest.now) }
+        ensures tags { tags_from self.old (take result rest.now) ≡ [] }
+        ensures at { self.new.at ≡ self.old.at + result }
+    {
+        let spaces = self.skip_spaces(rest);
+        spaces + self.go_on_with_name(&rest[spaces..])
+    }
+
+    // Skips the spaces before an attribute.
+    #[inline(always)]
+    fn skip_spaces(&mut self, rest: &[u8]) -> usize
+        requires before { self.old.state ≡ State.BeforeAttributeName }
+        requires room { self.old.at + length rest.now < 2 ^ 64 }
+        ensures within { result ≤ length rest.now }
+        ensures after { self.new ≡ after self.old (take result rest.now) }
+        ensures tags { tags_from self.old (take result rest.now) ≡ [] }
+        ensures at { self.new.at ≡ self.old.at + result }
+        ensures state { self.new.state ≡ self.old.state }
+    {
+        let len = space_len(rest);
+        self.at += len as u64;
+        len
+    }
+
+    // Reads the bytes of an attribute's name, and up to its value.
+    #[inline(always)]
+    fn go_on_with_name(&mut self, rest: &[u8]) -> usize
+        requires name { MayName self.old.state }
+        requires room { self.old.at + length rest.now < 2 ^ 64 }
+        ensures within { result ≤ length rest.now }
+        ensures after { self.new ≡ after self.old (take result rest.now) }
+        ensures tags { tags_from self.old (take result rest.now) ≡ [] }
+        ensures at { self.new.at ≡ self.old.at + result }
+    {
+        let name = self.skip_name(rest);
+        name + self.skip_equals_sign(&rest[name..])
+    }
+
+    // Reads the bytes of an attribute's name.
+    #[inline(always)]
+    fn skip_name(&mut self, rest: &[u8]) -> usize
+        requires name { MayName self.old.state }
+        requires room { self.old.at + length rest.now < 2 ^ 64 }
+        ensures within { result ≤ length rest.now }
+        ensures after { self.new ≡ after self.old (take result rest.now) }
+        ensures tags { tags_from self.old (take result rest.now) ≡ [] }
+        ensures at { self.new.at ≡ self.old.at + result }
+    {
+        let len = name_len(rest);
+        if len > 0 {
+            self.state = State::AttributeName;
+            self.at += len as u64;
+        }
+        len
+    }
+
+    // Reads an equals sign behind a name and the double quote behind it.
+    #[inline(always)]
+    fn skip_equals_sign(&mut self, rest: &[u8]) -> usize
+        requires room { self.old.at + length rest.now < 2 ^ 64 }
+        ensures within { result ≤ length rest.now }
+        ensures after { self.new ≡ after self.old (take result rest.now) }
+        ensures tags { tags_from self.old (take result rest.now) ≡ [] }
+        ensures at { self.new.at ≡ self.old.at + result }
+    {
+        if is_attribute_name(self.state) && begins_quoted(rest) {
+            self.state = State::AttributeValueDoubleQuoted;
+            self.at += 2;
+            2
+        } else {
+            0
+        }
+    }
+
+    // Skips bytes at the front that leave the state as it is: how many.
+    #[inline(always)]
+    fn skip_idle(&mut self, rest: &[u8]) -> usize
         requires room { self.old.at + length rest.now < 2 ^ 64 }
         ensures within { result ≤ length rest.now }
         ensures after { self.new ≡ after self.old (take result rest.now) }

@@ -6,7 +6,7 @@ ghost use Rattle.lol_tags.specs.States.{is_space, is_letter, ends_name, text, bo
 use crate::state::State;
 
 #[inline(always)]
-fn is_space(b: u8) -> bool
+pub(crate) fn is_space(b: u8) -> bool
     ensures { result ≡ is_space b }
 {
     b == b' ' || b == b'\n' || b == b'\t' || b == b'\r' || b == 12

@@ -1,18 +1,15 @@
--- Idle bytes move the place alone, and end no tag.
-use Rattle.std.proofs.Common.{ℕ, ◌+◌, take, sym, ap, ◌∙◌}
-use Rattle.std.proofs.lemmas.List.{length-take-le}
-use Rattle.lol_tags.specs.declared.reader.TagReader.{TagReader}
-use Rattle.lol_tags.proofs.Idle.{idle-run, idle-tags}
+-- One part, and then another.
+use Rattle.std.proofs.Common.{[], sym}
+use Rattle.lol_tags.specs.Reading.{step, ended}
+use Rattle.lol_tags.proofs.Steps.{run-part, given-part}
 use Rattle.lol_tags.proofs.reader.TagReader.skip.Goals as goal
 
 pub returns-clause-after : goal.returns-clause-after
 returns-clause-after c =
-    let n = c.idle_len-idle.result in
-    let rest = c.args.rest.now in
-    let r : TagReader = c.args.self.now in
-    ap (λ (m : ℕ). record r { at = r.at + m }) (sym (length-take-le n rest c.idle_len-idle.ensures.within))
-    ∙ sym (idle-run r c.in-Some.stop (take n rest) (sym c.in-Some.ensures) c.idle_len-idle.ensures.lacks)
+    run-part step c.args.self.now c.read_name-begun.new.self c.skip_idle.new.self c.args.rest.now c.read_name-begun.result c.skip_idle.result
+    c.read_name-begun.ensures.after c.skip_idle.ensures.after
 
 pub returns-clause-tags : goal.returns-clause-tags
 returns-clause-tags c =
-    idle-tags c.args.self.now c.in-Some.stop (take c.idle_len-idle.result c.args.rest.now) (sym c.in-Some.ensures) c.idle_len-idle.ensures.lacks
+    sym (given-part step ended c.args.self.now c.read_name-begun.new.self c.args.rest.now c.read_name-begun.result c.skip_idle.result [] []
+    c.read_name-begun.ensures.after (sym c.read_name-begun.ensures.tags) (sym c.skip_idle.ensures.tags))
