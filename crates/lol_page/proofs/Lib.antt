@@ -1,4 +1,5 @@
 pub mod Walks
+pub mod Plain
 pub mod Opening
 pub mod Tape
 pub mod ReadOn

@@ -1,6 +1,6 @@
 -- Lines and columns. A line ends behind a line feed, a carriage return, or a carriage return and a line feed (HTML Standard, 13.2.3.5,
 -- "Preprocessing the input stream").
-use Rattle.std.specs.Prelude.{ℕ, ◌+◌, ◌==◌, true, false, if◌then◌else◌, List, fold}
+use Rattle.std.specs.Prelude.{ℕ, ◌+◌, ◌≡◌, ◌==◌, true, false, if◌then◌else◌, List, [], ◌∷◌, fold}
 use Rattle.lol_page.specs.declared.position.Position.{Position}
 
 abbrev pub origin : Position
@@ -20,3 +20,8 @@ moved_over p bytes = fold moved_by p bytes
 -- how many lines end in some bytes, and how many bytes stand behind the last end
 abbrev pub position_behind : List ℕ → Position
 position_behind bytes = moved_over origin bytes
+
+-- none of these bytes ends a line
+abbrev pub ArePlain : List ℕ → Type 0
+ArePlain [] = Unit {0}
+ArePlain (b ∷ bytes) = ((b == 13) ≡ false) × ((b == 10) ≡ false) × ArePlain bytes

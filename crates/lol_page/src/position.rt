@@ -1,7 +1,9 @@
 //! Lines and columns.
 
-ghost use Rattle.std.specs.Prelude.{◌≡◌, ◌+◌, ◌<◌, ◌≤◌, ◌^◌, length};
-ghost use Rattle.lol_page.specs.Positions.{moved_by, moved_over, origin};
+ghost use Rattle.std.specs.Prelude.{◌≡◌, ◌+◌, ◌<◌, ◌≤◌, ◌^◌, List, ℕ, length, take};
+ghost use Rattle.lol_page.specs.Positions.{ArePlain, moved_by, moved_over, origin};
+
+use memchr::memchr2;
 
 /// A place in a page, by lines. A line ends behind a line feed, a carriage return, or a carriage return and a line feed (HTML Standard,
 /// 13.2.3.5).
@@ -70,9 +72,79 @@ impl Position {
         ensures columns { result.column ≤ self.column + length bytes.now }
     {
         let mut position = self;
-        for b in bytes {
-            position = position.behind(*b);
+        let mut i = 0;
+        while i < bytes.len() {
+            let len = plain_len(&bytes[i..]);
+            position = position.past(len);
+            i += len;
+            if i < bytes.len() {
+                position = position.behind(bytes[i]);
+                i += 1;
+            }
         }
         position
+    }
+
+    // The place behind so many bytes that end no line.
+    #[inline(always)]
+    fn past(self, len: usize) -> Self
+        requires columns { self.column + len < 2 ^ 64 }
+        ensures moved { (bytes : List ℕ) → length bytes ≡ len → ArePlain bytes → result ≡ moved_over self bytes }
+        ensures lines { result.line_ends ≡ self.line_ends }
+        ensures columns { result.column ≡ self.column + len }
+    {
+        if len == 0 {
+            return self;
+        }
+        Position {
+            line_ends: self.line_ends,
+            column: self.column + len as u64,
+            after_return: false,
+        }
+    }
+}
+
+// How many bytes are looked at one by one, before a search that is quick over many.
+const NEAR: usize = 32;
+
+// How many bytes at the front end no line.
+#[inline(always)]
+fn plain_len(bytes: &[u8]) -> usize
+    ensures within { result ≤ length bytes.now }
+    ensures plain { ArePlain (take result bytes.now) }
+{
+    let near = near_len(bytes);
+    if near < NEAR {
+        return near;
+    }
+    near + far_len(&bytes[near..])
+}
+
+// The same of the first bytes, or fewer.
+#[inline(always)]
+fn near_len(bytes: &[u8]) -> usize
+    ensures within { result ≤ length bytes.now }
+    ensures plain { ArePlain (take result bytes.now) }
+{
+    let end = bytes.len().min(NEAR);
+    let mut i = 0;
+    while i < end {
+        if bytes[i] <= b'\r' {
+            return i;
+        }
+        i += 1;
+    }
+    i
+}
+
+// The same of all.
+#[inline(never)]
+fn far_len(bytes: &[u8]) -> usize
+    ensures within { result ≤ length bytes.now }
+    ensures plain { ArePlain (take result bytes.now) }
+{
+    match memchr2(b'\n', b'\r', bytes) {
+        Some(place) => place,
+        None => bytes.len(),
     }
 }
