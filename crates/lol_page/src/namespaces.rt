@@ -77,6 +77,15 @@ fn is_among(name: &LocalName<'_>, others: &[&str]) -> bool
         .any(|other| is_spelled(name, other.as_bytes()))
 }
 
+// The same of a name's bytes, which their number tells apart from most others.
+fn are_among(bytes: &[u8], others: &[&str]) -> bool
+    ensures { result ≡ list_any (λ other. same_local_name (local_name bytes.now) (local_name other.now)) others.now }
+{
+    others
+        .iter()
+        .any(|other| bytes.eq_ignore_ascii_case(other.as_bytes()))
+}
+
 fn is_spelled(name: &LocalName<'_>, other: &[u8]) -> bool
     ensures { result ≡ names.is_spelled name.now other.now }
 {
@@ -95,10 +104,10 @@ fn is_text_point(name: &LocalName<'_>) -> bool
     is_among(name, &TEXT_POINTS)
 }
 
-fn is_breakout(name: &LocalName<'_>) -> bool
-    ensures { result ≡ names.is_among name.now names.breakouts }
+fn is_breakout(name: &[u8]) -> bool
+    ensures { result ≡ names.is_among (local_name name.now) names.breakouts }
 {
-    is_among(name, &BREAKOUTS)
+    are_among(name, &BREAKOUTS)
 }
 
 // The namespace of a start tag that is read by the rules for HTML.
@@ -165,17 +174,17 @@ fn is_html_type(value: Option<&[u8]>) -> bool
 
 // Whether a start tag breaks out, whose name ends at a place in its bytes. `outlines` serves to read its attributes.
 pub(crate) fn breaks_out(
-    name: &LocalName<'_>,
+    name: &[u8],
     text: &[u8],
     name_end: usize,
     outlines: &mut AttributeBuffer,
 ) -> Result<bool, AllocError>
-    ensures { IfOk result (λ out. out ≡ names.breaks_out name.now (attributes_of text.now name_end)) }
+    ensures { IfOk result (λ out. out ≡ names.breaks_out (local_name name.now) (attributes_of text.now name_end)) }
 {
     if is_breakout(name) {
         return Ok(true);
     }
-    if !is_spelled(name, b"font") {
+    if !is_spelled(&LocalName::new(name), b"font") {
         return Ok(false);
     }
     outlines.clear();

@@ -264,8 +264,8 @@ fn take_start(
         (left_by (local_name (slice_range text.now 1 name_end)) (attributes_of text.now name_end)
         (elements_of elements.old))) }
 {
+    leave_by(&text[1..name_end], text, name_end, elements, outlines)?;
     let name = LocalName::new(&text[1..name_end]);
-    leave_by(&name, text, name_end, elements, outlines)?;
     let namespace = elements.namespace_of(&name);
     if has_content(namespace, &name, self_closing) {
         let holds = holds_html(namespace, &name, text, name_end, outlines)?;
@@ -277,7 +277,7 @@ fn take_start(
 
 // Leaves the elements that a start tag breaks out of.
 fn leave_by(
-    name: &LocalName<'_>,
+    name: &[u8],
     text: &[u8],
     name_end: usize,
     elements: &mut OpenElements,
@@ -286,7 +286,7 @@ fn leave_by(
     requires sound { IsSound elements.old }
     ensures sound { OnOk result (IsSound elements.new) }
     ensures left { OnOk result (elements_of elements.new
-        ≡ left_by name.now (attributes_of text.now name_end) (elements_of elements.old)) }
+        ≡ left_by (local_name name.now) (attributes_of text.now name_end) (elements_of elements.old)) }
 {
     if !elements.holds_html() && breaks_out(name, text, name_end, outlines)? {
         elements.leave_to_html();

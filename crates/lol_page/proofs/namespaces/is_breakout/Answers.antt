@@ -3,4 +3,4 @@ use Rattle.lol_page.proofs.namespaces.is_breakout.Goals as goal
 
 pub returns : goal.returns
 unfolding breakouts
-returns c = c.is_among.ensures
+returns c = c.are_among.ensures
