@@ -1,6 +1,6 @@
 //! The reader of tags: a state of the tokenizer, and where the tag stands that is being read.
 
-ghost use Rattle.std.specs.Prelude.{◌≡◌, ◌↔◌, ◌+◌, ◌++◌, ◌<◌, ◌≤◌, ◌^◌, [], length, take, IsErr, IsTrue, IfNone, IfSome, IfOk, OnOk, OnErr};
+ghost use Rattle.std.specs.Prelude.{◌≡◌, ◌↔◌, ◌+◌, ◌++◌, ◌<◌, ◌≤◌, ◌^◌, [], true, false, Some, None, length, take, get_or, IsErr, IsTrue, IfNone, IfSome, IfOk, OnOk, OnErr};
 ghost use Rattle.lol_tags.specs.Runs.{with_some};
 ghost use Rattle.lol_tags.specs.Reading.{with_byte, script, has_raw_text, text_state, is_named, is_script, noted, step, ended, closed, fresh, after, tags_from, told_foreign, unfinished};
 ghost use Rattle.lol_tags.specs.Idling.{Lacks, MaySpell, MayName};
@@ -251,48 +251,44 @@ impl TagReader {
         ensures last { IfSome result.tag (λ tag. tag.end ≡ self.new.at) }
         ensures at { self.new.at ≡ self.old.at + result.taken }
     {
-        let mut i = 0;
-        while i < rest.len() {
-            let part = self.read_part(&rest[i..]);
-            i += part.taken;
-            if part.tag.is_some() {
-                return Read {
-                    taken: i,
-                    tag: part.tag,
-                };
-            }
-        }
-        Read {
-            taken: i,
-            tag: None,
-        }
-    }
-
-    // Reads up to the first byte that isn't idle, and that byte.
-    #[inline(always)]
-    fn read_part(&mut self, rest: &[u8]) -> Read
-        requires some { 0 < length rest.now }
-        requires room { self.old.at + length rest.now < 2 ^ 64 }
-        ensures moved { 0 < result.taken }
-        ensures within { result.taken ≤ length rest.now }
-        ensures after { self.new ≡ after self.old (take result.taken rest.now) }
-        ensures tags { with_some result.tag [] ≡ tags_from self.old (take result.taken rest.now) }
-        ensures last { IfSome result.tag (λ tag. tag.end ≡ self.new.at) }
-        ensures at { self.new.at ≡ self.old.at + result.taken }
-    {
-        let idle = self.skip(rest);
-        if idle < rest.len() {
-            let tag = self.step(rest[idle]);
+        let before = self.pass(rest);
+        if before < rest.len() {
+            let tag = self.finish(rest[before]);
             Read {
-                taken: idle + 1,
-                tag,
+                taken: before + 1,
+                tag: Some(tag),
             }
         } else {
             Read {
-                taken: idle,
+                taken: before,
                 tag: None,
             }
         }
+    }
+
+    // Reads up to the byte that ends a tag, or to the end: how many bytes.
+    #[inline(always)]
+    fn pass(&mut self, rest: &[u8]) -> usize
+        requires room { self.old.at + length rest.now < 2 ^ 64 }
+        ensures within { result ≤ length rest.now }
+        ensures after { self.new ≡ after self.old (take result rest.now) }
+        ensures tags { tags_from self.old (take result rest.now) ≡ [] }
+        ensures ends { result < length rest.now → ends self.new (get_or rest.now result 0) ≡ true }
+        ensures at { self.new.at ≡ self.old.at + result }
+    {
+        let mut i = 0;
+        while i < rest.len() {
+            let idle = self.skip(&rest[i..]);
+            i += idle;
+            if i < rest.len() {
+                if self.ends(rest[i]) {
+                    return i;
+                }
+                self.go_on(rest[i]);
+                i += 1;
+            }
+        }
+        i
     }
 
     // Reads what can be read at once at the front: how many bytes.
@@ -446,25 +442,34 @@ impl TagReader {
         idle
     }
 
-    // One byte: the tag that it ends, if it ends one.
+    // One byte that ends no tag.
     #[inline(always)]
     #[tactic(auto, unfolding(crate::specs::Reading::step, crate::specs::Reading::ended))]
-    fn step(&mut self, b: u8) -> Option<Tag>
-        requires { self.old.at + 1 < 2 ^ 64 }
+    fn go_on(&mut self, b: u8)
+        requires room { self.old.at + 1 < 2 ^ 64 }
+        requires inside { ends self.old b ≡ false }
         ensures after { self.new ≡ step self.old b }
-        ensures tag { result ≡ ended self.old b }
-        ensures last { IfSome result (λ tag. tag.end ≡ self.new.at) }
+        ensures none { ended self.old b ≡ None }
         ensures at { self.new.at ≡ self.old.at + 1 }
     {
-        if self.ends(b) {
-            let tag = self.tag();
-            self.advance(b);
-            self.close();
-            Some(tag)
-        } else {
-            self.advance(b);
-            None
-        }
+        self.advance(b);
+    }
+
+    // The tag that a byte ends.
+    #[inline(always)]
+    #[tactic(auto, unfolding(crate::specs::Reading::step, crate::specs::Reading::ended))]
+    fn finish(&mut self, b: u8) -> Tag
+        requires room { self.old.at + 1 < 2 ^ 64 }
+        requires last { ends self.old b ≡ true }
+        ensures after { self.new ≡ step self.old b }
+        ensures tag { Some result ≡ ended self.old b }
+        ensures end { result.end ≡ self.new.at }
+        ensures at { self.new.at ≡ self.old.at + 1 }
+    {
+        let tag = self.tag();
+        self.advance(b);
+        self.close();
+        tag
     }
 
     // Whether a byte ends a tag.

@@ -1,6 +1,6 @@
 use Rattle.std.proofs.Common.{◌≡◌, ◌+◌, ◌-◌, ◌≤◌, [], take, length}
 use Rattle.lol_tags.specs.Reading.{after, tags_from}
-use Rattle.lol_tags.proofs.reader.TagReader.read_tag.Given as goal
+use Rattle.lol_tags.proofs.reader.TagReader.pass.Given as goal
 
 abbrev pub invariant-loop-i : goal.invariant-loop-i
 invariant-loop-i l = record {
