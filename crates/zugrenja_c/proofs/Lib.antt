@@ -5,4 +5,4 @@ pub mod Buffers
 pub mod Closings
 pub mod ReasonTables
 pub mod Finishes
-pub mod Runs
+pub mod Starting

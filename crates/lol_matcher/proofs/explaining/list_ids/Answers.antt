@@ -12,14 +12,14 @@ pub loop-info-preserved : goal.loop-info-preserved
 loop-info-preserved c = (
   c.push_id.ensures.room ∙ c.loop-info.invariant.0,
   λ few.
-    let items = items_of c.args.explainer.now in
-    let before = c.loop-info.invariant.1 few in
-    let fewer = ids_are_few items (numbers_in (take c.loop-info.info-index c.args.matches.now)) in
-    let same = c.loop-info.invariant.0 in
-    let more = c.loop-info-test.true in
-    let has_room : length c.loop-info.ids.items < vec_capacity c.loop-info.ids = grind (arith, common_steps, length-map, ap length before, fewer, few, same, more) in
-    let pushed = c.push_id.ensures.pushed has_room in
-    grind (arith, common_steps, filter_map-append, map-append, before, pushed),
+      let items = items_of c.args.explainer.now in
+      let before = c.loop-info.invariant.1 few in
+      let fewer = ids_are_few items (numbers_in (take c.loop-info.info-index c.args.matches.now)) in
+      let same = c.loop-info.invariant.0 in
+      let more = c.loop-info-test.true in
+      let has_room : length c.loop-info.ids.items < vec_capacity c.loop-info.ids = grind (arith, common_steps, length-map, ap length before, fewer, few, same, more) in
+      let pushed = c.push_id.ensures.pushed has_room in
+      grind (arith, common_steps, filter_map-append, map-append, before, pushed),
 )
 
 pub returns-clause-listed : goal.returns-clause-listed

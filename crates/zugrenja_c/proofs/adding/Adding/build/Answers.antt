@@ -7,7 +7,7 @@ use Rattle.lol_program.specs.declared.ast.Ast.{Ast}
 use Rattle.lol_reasons.specs.Numbered.{HasItemsOf, HoldsItems, texts_in}
 use Rattle.lol_vm.specs.Views.{selectors}
 use Rattle.zugrenja_c.specs.Sessions.{HasSelectorsOf, IsBuiltFrom}
-use Rattle.zugrenja_c.proofs.Runs.{if_ok}
+use Rattle.zugrenja_c.proofs.Starting.{if_ok}
 use Rattle.zugrenja_c.proofs.adding.Adding.build.Goals as goal
 
 pub explaining-requires-clause-holds : goal.explaining-requires-clause-holds

@@ -1,6 +1,6 @@
 use Rattle.std.proofs.Common.{refl}
 use Rattle.lol_matcher.specs.Answering.{with_ended}
-use Rattle.zugrenja_c.proofs.Runs.{keeps}
+use Rattle.zugrenja_c.proofs.Starting.{keeps}
 use Rattle.zugrenja_c.proofs.running.Running.end.Goals as goal
 
 pub invariant_of-self : goal.invariant_of-self

@@ -6,7 +6,7 @@ use Rattle.lol_matcher.specs.Answering.{with_told}
 use Rattle.lol_matcher.specs.Noted.{finished_told}
 use Rattle.zugrenja_c.specs.Tags.{AreInside, FinishIsAnswered, given_tag}
 use Rattle.zugrenja_c.proofs.Finishes.{finished_by, weaker_of_some}
-use Rattle.zugrenja_c.proofs.Runs.{keeps, refused_keeps}
+use Rattle.zugrenja_c.proofs.Starting.{keeps, refused_keeps}
 use Rattle.zugrenja_c.proofs.running.Running.finish.Goals as goal
 
 pub invariant_of-self : goal.invariant_of-self

@@ -6,7 +6,7 @@ use Rattle.std.proofs.lemmas.Grind.{common_steps}
 use Rattle.lol_matcher.specs.declared.matcher.Started.TheVariants as answers
 use Rattle.zugrenja_c.specs.Numbers.{IsOneOf, numbered_namespace}
 use Rattle.zugrenja_c.specs.Tags.{StartIsAnswered}
-use Rattle.zugrenja_c.proofs.Runs.{answered, started_keeps}
+use Rattle.zugrenja_c.proofs.Starting.{answered, started_keeps}
 use Rattle.zugrenja_c.proofs.Statuses.{start_status}
 use Rattle.zugrenja_c.proofs.running.Running.start.Goals as goal
 use Rattle.zugrenja_c.proofs.running.Running.start.Goals.{in-Ok-Reported, in-Ok-NeedsAttributes, in-Err}
