@@ -1,2 +1,3 @@
 pub mod PageMatches
+pub mod PageRefusals
 pub mod MatchLaws

@@ -1,10 +1,10 @@
 -- The matches of a page's parts, one after the other.
-use Rattle.std.proofs.Common.{ℕ, suc, ◌≡◌, Bool, List, [], ◌∷◌, ◌++◌, length, take, drop, Option, Some, None, refl, sym, ap, ◌∙◌, append_assoc}
+use Rattle.std.proofs.Common.{ℕ, suc, ◌≡◌, Bool, List, [], ◌∷◌, ◌++◌, length, take, drop, Option, Some, None, refl, sym, ap, subst, ◌∙◌, append_assoc}
 use Rattle.std.proofs.lemmas.List.{append-nil}
 use Rattle.std.proofs.Math.Seq.{take-append_seam, drop-append_seam}
 use Rattle.lol_program.specs.Paths.{Selectors}
 use Rattle.lol_program.specs.declared.ast.Ast.{Ast}
-use Rattle.lol_tags.specs.Runs.{with_some}
+use Rattle.lol_tags.specs.Runs.{with_some, run-append, given-append}
 use Rattle.lol_vm.specs.Answers.{Answer, after, answer, answers_from, document, document_from}
 use Rattle.lol_vm.specs.AnswerLaws.{answers_append}
 use Rattle.lol_vm.specs.Documents.{Document, empty}
@@ -12,8 +12,10 @@ use Rattle.lol_vm.specs.Events.{Event}
 use Rattle.lol_vm.specs.Views.{selectors}
 use Rattle.lol_matcher.specs.Told.{Told, heard}
 use Rattle.lol_page.specs.PageTags.{PageTag}
-use Rattle.lol_page.specs.Pages.{events_of, events_of_tags}
-use Rattle.lol_page_matcher.specs.PageMatches.{HearsOn, PageMatch, match_if, matched_of, matches_by, matches_told}
+use Rattle.lol_page.specs.Pages as pages
+use Rattle.lol_page.specs.Pages.{page_step, page_ended, page_after, page_tags_from, events_of, events_of_tags}
+use Rattle.lol_page_matcher.specs.PageMatches.{HearsOn, PageMatch, ReadsOn, match_if, matched_of, matches_by, matches_told}
+use Rattle.lol_page_matcher.specs.declared.page.Page.{Page}
 
 pub events_append : (xs ys : List PageTag) → events_of_tags (xs ++ ys) ≡ events_of_tags xs ++ events_of_tags ys
 events_append [] ys = refl
@@ -66,12 +68,52 @@ matches_on old new xs ys on =
     matches_append s old.esi (document s old.esi (heard old)) xs ys
     ∙ (λ i. matches_told old xs ++ matches_by ys (answers_from (selectors (sym on.ast i)) (sym on.esi i) (sym document_is i) (events_of_tags ys)))
 
-pub hears_nothing : (t : Told) → HearsOn t t []
+hears_nothing : (t : Told) → HearsOn t t []
 hears_nothing t = record { ast = refl; esi = refl; heard_is = sym (append-nil (heard t)) }
 
-pub hears_both : (first next last : Told) (xs ys : List Event) → HearsOn first next xs → HearsOn next last ys → HearsOn first last (xs ++ ys)
+hears_both : (first next last : Told) (xs ys : List Event) → HearsOn first next xs → HearsOn next last ys → HearsOn first last (xs ++ ys)
 hears_both first next last xs ys one two = record {
   ast = two.ast ∙ one.ast;
   esi = two.esi ∙ one.esi;
   heard_is = two.heard_is ∙ (ap (λ l. l ++ ys) one.heard_is ∙ append_assoc (heard first) xs ys);
 }
+
+-- Pages that are read on: by nothing, and by bytes and more of them.
+module _ {T : Type 0} where
+  pub reads_nothing : (p : Page T) → ReadsOn p p []
+  reads_nothing p = record {
+    page = refl;
+    told = hears_nothing p.matcher.told;
+    reader_failed = refl;
+    matcher_failed = refl;
+    max_tag_bytes = refl;
+    max_memory = refl;
+    element_bytes = refl;
+  }
+
+  module _ (p q : Page T) (xs ys : List ℕ) (first : ReadsOn p q xs) where
+    tags_both : page_tags_from p.reader.page (xs ++ ys) ≡ page_tags_from p.reader.page xs ++ page_tags_from q.reader.page ys
+    tags_both =
+        given-append page_step page_ended p.reader.page xs ys
+        ∙ ap (λ (x : pages.Page). page_tags_from p.reader.page xs ++ page_tags_from x ys) (sym first.page)
+
+    pub reads_both : (r : Page T) → ReadsOn q r ys → ReadsOn p r (xs ++ ys)
+    reads_both r then =
+        let tags = page_tags_from p.reader.page xs in
+        let more = page_tags_from q.reader.page ys in
+        record {
+          page = then.page ∙ ap (λ (x : pages.Page). page_after x ys) first.page ∙ sym (run-append page_step p.reader.page xs ys);
+          told = subst (λ events. HearsOn p.matcher.told r.matcher.told events) (sym (ap events_of_tags tags_both ∙ events_append tags more))
+              (hears_both p.matcher.told q.matcher.told r.matcher.told (events_of_tags tags) (events_of_tags more) first.told then.told);
+          reader_failed = then.reader_failed ∙ first.reader_failed;
+          matcher_failed = then.matcher_failed ∙ first.matcher_failed;
+          max_tag_bytes = then.max_tag_bytes ∙ first.max_tag_bytes;
+          max_memory = then.max_memory ∙ first.max_memory;
+          element_bytes = then.element_bytes ∙ first.element_bytes;
+        }
+
+    -- their matches
+    pub matches_both : matches_told p.matcher.told (page_tags_from p.reader.page (xs ++ ys))
+        ≡ matches_told p.matcher.told (page_tags_from p.reader.page xs) ++ matches_told q.matcher.told (page_tags_from q.reader.page ys)
+    matches_both =
+        ap (matches_told p.matcher.told) tags_both ∙ matches_on p.matcher.told q.matcher.told (page_tags_from p.reader.page xs) (page_tags_from q.reader.page ys) first.told

@@ -5,4 +5,4 @@ mod error;
 mod page;
 
 pub use error::PageError;
-pub use page::{MatchRead, Page};
+pub use page::Page;

@@ -1,41 +1,38 @@
 //! A page, told to a matcher tag by tag.
 
-ghost use Rattle.std.specs.Prelude.{◌≡◌, ◌↔◌, ◌≤◌, ◌<◌, [], false, true, Err, length, map, take, IfNone, IfOk, OnOk, OnErr};
+ghost use Rattle.std.specs.Prelude.{◌≡◌, ◌↔◌, ◌-◌, ◌≤◌, ◌<◌, [], false, true, Err, if◌then◌else◌, length, map, take, IfErr, IfNone, IfOk, IfSome, OnOk, OnErr};
+ghost use Rattle.lol_stack.specs.Calls.{IsCalledAtEach};
 ghost use Rattle.lol_tags.specs.Runs.{with_some};
-ghost use Rattle.lol_page.specs.Pages.{fresh_page, page_after, page_tags_from, events_of_tags, events_of};
-ghost use Rattle.lol_page.specs.Readings.{with_text};
-ghost use Rattle.lol_page_matcher.specs.PageMatches.{HearsOn, answers_told, matched_of, matches_told, match_read};
-ghost use Rattle.lol_vm.specs.Views.{match_of};
+ghost use Rattle.lol_page.specs.Pages.{fresh_page, page_tags_from, events_of};
+ghost use Rattle.lol_page.specs.Readings.{tag_read, with_text};
+ghost use Rattle.lol_page_matcher.specs.PageMatches.{HearsOn, ReadsOn, answers_told, handed_out, handed_out_by, matched_of, matches_told, match_read};
+ghost use Rattle.lol_page_matcher.specs.PageRefusals.{Accepts, FitsTag, IsRefused, Refuses, RefusesTag};
+ghost use Rattle.lol_matcher.specs.Answering.{last_value, with_value};
+ghost use Rattle.lol_matcher.specs.Last.{last_opens};
+ghost use Rattle.lol_matcher.specs.Told.{elements_of};
+ghost use Rattle.lol_vm.specs.Views.{match_of, selectors};
 
 use crate::error::PageError;
 use lol_base::{AttributeBuffer, AuxStartTagInfo, Bytes};
-use lol_matcher::{MatchInfo, Matcher};
-use lol_page::{PageReader, PlacedTag};
+use lol_matcher::{MatchInfo, Matcher, OpenElement};
+use lol_page::{PageRead, PageReader, PlacedTag};
 use lol_tags::push_outlines;
+use lol_vm::vm_laws::standing_counts;
 use std::alloc::Global;
 
-/// How far a chunk was read.
-#[derive(Clone, Copy, Debug, PartialEq, Eq)]
-pub struct MatchRead {
-    /// How many bytes of the chunk were read.
-    pub taken: usize,
-    /// The start tag that the last of them ends, and that is reported.
-    pub tag: Option<PlacedTag>,
-}
-
-/// A page whose tags are told to a matcher.
+/// A page whose tags are told to a matcher. Each open element may have a value of the caller's own, of the type `T`.
 #[derive(Drop)]
-pub struct Page {
+pub struct Page<T = ()> {
     reader: PageReader,
-    matcher: Matcher,
+    matcher: Matcher<T>,
     outlines: AttributeBuffer,
     failed: bool,
 }
 
-impl Page {
+impl<T: Drop> Page<T> {
     /// A page at its start. If `scripting` is set, the text of `noscript` is read as a browser does that runs scripts. A tag of more bytes than
     /// `max_tag_bytes` is refused.
-    pub fn new(alloc: Global, matcher: Matcher, scripting: bool, max_tag_bytes: u64) -> Self
+    pub fn new(alloc: Global, matcher: Matcher<T>, scripting: bool, max_tag_bytes: u64) -> Self
         ensures page { result.reader.page ≡ fresh_page scripting }
         ensures matcher { result.matcher ≡ matcher }
         ensures limit { result.reader.limit ≡ max_tag_bytes }
@@ -63,91 +60,193 @@ impl Page {
         self.reader.text()
     }
 
-    /// Reads up to the next start tag that is reported and behind its `>`, or to the chunk's end.
+    /// Whether the tag that was read last opened its element: a start tag whose element has content.
+    pub fn has_opened(&self) -> bool
+        ensures opened { result ≡ self.now.matcher.opened }
+        ensures answered { self.now.matcher.failed ≡ false
+            → result ≡ last_opens (selectors self.now.matcher.told.ast) self.now.matcher.told }
+    {
+        self.matcher.has_opened()
+    }
+
+    /// How many elements are open around that of the tag that was read last; behind an end tag, how many are open.
+    pub fn depth(&self) -> usize
+        ensures kept { result ≡ length self.now.matcher.kept - (if self.now.matcher.opened then 1 else 0) }
+        ensures told { self.now.matcher.failed ≡ false → result
+            ≡ length (elements_of self.now.matcher.told) - (if self.now.matcher.opened then 1 else 0) }
+    {
+        standing_counts::<OpenElement<T>>();
+        let open = self.matcher.machine().open_elements();
+        if self.matcher.has_opened() {
+            open.saturating_sub(1)
+        } else {
+            open
+        }
+    }
+
+    /// Changes the value of the innermost open element, and answers the one that it had: none until one was given. Where no element is
+    /// open, it answers the new one.
+    pub fn replace_value(&mut self, value: Option<T>) -> Option<T>
+        ensures before { result ≡ last_value value self.old.matcher.kept }
+        ensures changed { self.new.matcher ≡ record self.old.matcher { kept = with_value value self.old.matcher.kept } }
+        ensures reader { self.new.reader ≡ self.old.reader }
+        ensures failed { self.new.failed ≡ self.old.failed }
+    {
+        self.matcher.replace_value(value)
+    }
+
+    /// The page ends: its matcher, which has the elements that are still open. A tag that isn't whole is none.
+    pub fn into_matcher(self) -> Matcher<T>
+        ensures { result ≡ self.matcher }
+    {
+        let Page {
+            reader: _,
+            matcher,
+            outlines: _,
+            failed: _,
+        } = self;
+        matcher
+    }
+
+    /// Reads up to the next start tag that is reported and behind its `>`, or to the chunk's end. The answer has no other tag.
     ///
     /// # Errors
-    /// `Read`: the page was refused. `Matcher`: a start tag was refused. `Memory`: an allocation failed. After each of them nothing more is read:
-    /// every later call returns `Failed`.
-    pub fn next_match(&mut self, chunk: &[u8]) -> Result<MatchRead, PageError>
+    /// As those of `next_tag`, at the first tag that is refused: those before it are told, and none of them is reported.
+    pub fn next_match(&mut self, chunk: &[u8]) -> Result<PageRead, PageError>
         ensures within { IfOk result (λ read. read.taken ≤ length chunk.now) }
-        ensures after { IfOk result (λ read.
-            self.new.reader.page ≡ page_after self.old.reader.page (take read.taken chunk.now)) }
-        ensures told { IfOk result (λ read. HearsOn self.old.matcher.told self.new.matcher.told
-            (events_of_tags (page_tags_from self.old.reader.page (take read.taken chunk.now)))) }
+        ensures read { IfOk result (λ read. ReadsOn self.old self.new (take read.taken chunk.now)) }
         ensures found { IfOk result (λ read.
             with_some (match_read self.new.reader.text self.new.matcher.matched read.tag) []
             ≡ matches_told self.old.matcher.told (page_tags_from self.old.reader.page (take read.taken chunk.now))) }
         ensures whole { IfOk result (λ read. IfNone read.tag (read.taken ≡ length chunk.now)) }
         ensures goes_on { OnOk result (self.new.failed ≡ false) }
         ensures failed { (result ≡ Err PageError.Failed) ↔ (self.old.failed ≡ true) }
-        ensures refused { OnErr result (self.new.failed ≡ true) }
+        ensures refused { IfErr result (λ error. self.old.failed ≡ false
+            → IsRefused error self.old self.new chunk.now) }
+        ensures stuck { OnErr result (self.new.failed ≡ true) }
     {
         if self.failed {
             return Err(PageError::Failed);
         }
-        self.failed = true;
         let mut i = 0;
         while i < chunk.len() {
-            let (taken, tag) = self.step(&chunk[i..])?;
-            i += taken;
-            if let Some(tag) = tag {
-                self.failed = false;
-                return Ok(MatchRead {
+            let read = self.step(&chunk[i..])?;
+            i += read.taken;
+            if read.tag.is_some() {
+                return Ok(PageRead {
                     taken: i,
-                    tag: Some(tag),
+                    tag: read.tag,
                 });
             }
         }
-        self.failed = false;
-        Ok(MatchRead {
+        Ok(PageRead {
             taken: i,
             tag: None,
         })
     }
 
-    // Reads up to the next tag and tells of it: how many bytes, and the tag, if it is reported.
-    fn step(&mut self, rest: &[u8]) -> Result<(usize, Option<PlacedTag>), PageError>
-        ensures failed { self.new.failed ≡ self.old.failed }
-        ensures unfailed { result ≡ Err PageError.Failed → ⊥ }
-        ensures moved { IfOk result (λ r. 0 < length rest.now → 0 < r.0) }
-        ensures within { IfOk result (λ r. r.0 ≤ length rest.now) }
-        ensures after { IfOk result (λ r.
-            self.new.reader.page ≡ page_after self.old.reader.page (take r.0 rest.now)) }
-        ensures told { IfOk result (λ r. HearsOn self.old.matcher.told self.new.matcher.told
-            (events_of_tags (page_tags_from self.old.reader.page (take r.0 rest.now)))) }
-        ensures found { IfOk result (λ r.
-            with_some (match_read self.new.reader.text self.new.matcher.matched r.1) []
-            ≡ matches_told self.old.matcher.told (page_tags_from self.old.reader.page (take r.0 rest.now))) }
+    // Reads up to the next tag, which is answered if it is reported.
+    fn step(&mut self, rest: &[u8]) -> Result<PageRead, PageError>
+        ensures moved { IfOk result (λ read. 0 < length rest.now → 0 < read.taken) }
+        ensures within { IfOk result (λ read. read.taken ≤ length rest.now) }
+        ensures read { IfOk result (λ read. ReadsOn self.old self.new (take read.taken rest.now)) }
+        ensures found { IfOk result (λ read.
+            with_some (match_read self.new.reader.text self.new.matcher.matched read.tag) []
+            ≡ matches_told self.old.matcher.told (page_tags_from self.old.reader.page (take read.taken rest.now))) }
+        ensures goes_on { OnOk result (self.new.failed ≡ false) }
+        ensures failed { result ≡ Err PageError.Failed → self.old.failed ≡ true }
+        ensures refused { IfErr result (λ error. self.old.failed ≡ false → Refuses error self.old rest.now) }
+        ensures stuck { OnErr result (self.new.failed ≡ true) }
+        ensures untold { OnErr result (self.new.matcher.told ≡ self.old.matcher.told) }
     {
-        let read = match self.reader.next(rest) {
-            Ok(read) => read,
-            Err(error) => return Err(PageError::Read(error)),
-        };
-        let Some(placed) = read.tag else {
-            return Ok((read.taken, None));
-        };
-        self.tell(&placed)?;
+        let read = self.next_tag(rest, &mut |_element: OpenElement<T>| {})?;
         if self.matcher.matches().is_empty() {
-            Ok((read.taken, None))
+            Ok(PageRead {
+                taken: read.taken,
+                tag: None,
+            })
         } else {
-            Ok((read.taken, Some(placed)))
+            Ok(read)
         }
     }
 
+    /// Reads up to the next tag and behind its `>`, or to the chunk's end, and tells the matcher of it. If it is an end tag, the handler is
+    /// called with what was kept of each element that it closes, the outermost first.
+    ///
+    /// # Errors
+    /// `Read`: the page was refused. `Matcher`: the next tag is a start tag that the matcher refuses. `Memory`: it is a start tag, and there is no
+    /// memory for its attributes. After each of them nothing more is read: every later call returns `Failed`.
+    pub fn next_tag<F: FnMut(OpenElement<T>)>(
+        &mut self,
+        chunk: &[u8],
+        handler: &mut F,
+    ) -> Result<PageRead, PageError>
+        requires { F.IsAlwaysCallable handler.old }
+        ensures again { F.IsAlwaysCallable handler.new }
+        ensures within { IfOk result (λ read. read.taken ≤ length chunk.now) }
+        ensures read { IfOk result (λ read. ReadsOn self.old self.new (take read.taken chunk.now)) }
+        ensures tag { IfOk result (λ read. with_some (tag_read self.new.reader.text read.tag) []
+            ≡ page_tags_from self.old.reader.page (take read.taken chunk.now)) }
+        ensures matched { IfOk result (λ read. IfSome read.tag (λ placed. map match_of self.new.matcher.matched
+            ≡ matched_of (answers_told self.old.matcher.told (events_of (with_text self.new.reader.text placed))))) }
+        ensures closed { IfOk result (λ read. IsCalledAtEach F.step handler.old
+            (handed_out self.old.matcher (tag_read self.new.reader.text read.tag)) handler.new) }
+        ensures whole { IfOk result (λ read. IfNone read.tag (read.taken ≡ length chunk.now)) }
+        ensures goes_on { OnOk result (self.new.failed ≡ false) }
+        ensures failed { (result ≡ Err PageError.Failed) ↔ (self.old.failed ≡ true) }
+        ensures accepted { OnOk result (Accepts self.old chunk.now) }
+        ensures refused { IfErr result (λ error. self.old.failed ≡ false → Refuses error self.old chunk.now) }
+        ensures stuck { OnErr result (self.new.failed ≡ true) }
+        ensures untold { OnErr result (self.new.matcher.told ≡ self.old.matcher.told) }
+        ensures unasked { result ≡ Err PageError.Memory → self.new.matcher ≡ self.old.matcher }
+        ensures unclosed { OnErr result (handler.new ≡ handler.old) }
+    {
+        if self.failed {
+            return Err(PageError::Failed);
+        }
+        self.failed = true;
+        let read = match self.reader.next(chunk) {
+            Ok(read) => read,
+            Err(error) => return Err(PageError::Read(error)),
+        };
+        if let Some(placed) = &read.tag {
+            self.tell(placed, handler)?;
+        }
+        self.failed = false;
+        Ok(read)
+    }
+
     // Tells the matcher of a tag.
-    fn tell(&mut self, placed: &PlacedTag) -> Result<(), PageError>
+    fn tell<F: FnMut(OpenElement<T>)>(
+        &mut self,
+        placed: &PlacedTag,
+        handler: &mut F,
+    ) -> Result<(), PageError>
+        requires { F.IsAlwaysCallable handler.old }
+        ensures again { F.IsAlwaysCallable handler.new }
         ensures told { OnOk result (HearsOn self.old.matcher.told self.new.matcher.told
             (events_of (with_text self.old.reader.text placed.now))) }
         ensures matched { OnOk result (map match_of self.new.matcher.matched
             ≡ matched_of (answers_told self.old.matcher.told (events_of (with_text self.old.reader.text placed.now)))) }
+        ensures closed { OnOk result (IsCalledAtEach F.step handler.old
+            (handed_out_by self.old.matcher self.old.reader.text placed.now.tag placed.now.namespace) handler.new) }
+        ensures matcher_failed { OnOk result (self.new.matcher.failed ≡ self.old.matcher.failed) }
+        ensures max_memory { OnOk result (self.new.matcher.max_memory ≡ self.old.matcher.max_memory) }
+        ensures element_bytes { OnOk result (self.new.matcher.element_bytes ≡ self.old.matcher.element_bytes) }
         ensures reader { self.new.reader ≡ self.old.reader }
         ensures failed { self.new.failed ≡ self.old.failed }
-        ensures unfailed { result ≡ Err PageError.Failed → ⊥ }
+        ensures fits { OnOk result
+            (FitsTag self.old.matcher self.old.reader.text placed.now.tag placed.now.namespace) }
+        ensures refused { IfErr result (λ error.
+            RefusesTag error self.old.matcher self.old.reader.text placed.now.tag placed.now.namespace) }
+        ensures untold { OnErr result (self.new.matcher.told ≡ self.old.matcher.told) }
+        ensures unasked { result ≡ Err PageError.Memory → self.new.matcher ≡ self.old.matcher }
+        ensures unclosed { OnErr result (handler.new ≡ handler.old) }
     {
         let text = self.reader.text();
         let name = placed.name(text);
         let Some(namespace) = placed.namespace else {
-            self.matcher.end(name);
+            self.matcher.end_with(name, handler);
             return Ok(());
         };
         self.outlines.clear();

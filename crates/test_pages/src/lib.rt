@@ -2,6 +2,8 @@
 #![tactic(auto)]
 
 #[cfg(test)]
+mod closings;
+#[cfg(test)]
 mod matches;
 #[cfg(test)]
 mod pages;

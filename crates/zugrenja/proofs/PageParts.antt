@@ -6,47 +6,15 @@ use Rattle.std.proofs.KnownBytes.{Appends-trans, Consumes-trans}
 use Rattle.std.proofs.Math.Seq.{take-add}
 use Rattle.std.proofs.lemmas.List.{append-nil, take_rest}
 use Rattle.lol_program.specs.declared.ast.Ast.{Ast}
-use Rattle.lol_tags.specs.Runs.{with_some, run-append, given-append}
-use Rattle.lol_vm.specs.Events.{Event}
 use Rattle.lol_vm.specs.Views.{selectors}
-use Rattle.lol_page.specs.PageTags.{PageTag}
-use Rattle.lol_page.specs.Pages as pages
-use Rattle.lol_page.specs.Pages.{page_step, page_ended, page_after, page_tags, page_tags_from, fresh_page, events_of, events_of_tags}
-use Rattle.lol_matcher.specs.Told.{Told}
-use Rattle.lol_page_matcher.specs.MatchLaws.{events_append, hears_both, hears_nothing, matches_on as matches_told_on}
-use Rattle.lol_page_matcher.specs.PageMatches.{HearsOn, PageMatch, matches_told, page_matches}
+use Rattle.lol_page.specs.Pages.{fresh_page, page_tags_from}
+use Rattle.lol_page_matcher.specs.PageMatches.{PageMatch, matches_told, page_matches}
 use Rattle.lol_page_matcher.specs.declared.page.Page.{Page}
 use Rattle.zugrenja.specs.Lines.{end_of, line_of, lines_of, page_lines}
-use Rattle.zugrenja.specs.PageReadings.{HasRead, matches_in, told_nothing}
+use Rattle.zugrenja.specs.PageReadings.{matches_in, told_nothing}
 use Rattle.zugrenja.specs.declared.lines.Style.{Style}
 
--- 1. Pages
-
-tags-on : (p q : pages.Page) (xs ys : List ℕ) → q ≡ page_after p xs → page_tags_from p (xs ++ ys) ≡ page_tags_from p xs ++ page_tags_from q ys
-tags-on p q xs ys e =
-    given-append page_step page_ended p xs ys ∙ ap (λ (x : pages.Page). page_tags_from p xs ++ page_tags_from x ys) (sym e)
-
-pub read_nothing : (p : Page) → HasRead p p []
-read_nothing p = record { page = refl; told = hears_nothing p.matcher.told }
-
--- bytes, and more of them
-pub read_on : (p q r : Page) (xs ys : List ℕ) → HasRead p q xs → HasRead q r ys → HasRead p r (xs ++ ys)
-read_on p q r xs ys first then = record {
-  page = then.page ∙ ap (λ (x : pages.Page). page_after x ys) first.page ∙ sym (run-append page_step p.reader.page xs ys);
-  told =
-      let tags = page_tags_from p.reader.page xs in
-      let more = page_tags_from q.reader.page ys in
-      subst (λ events. HearsOn p.matcher.told r.matcher.told events) (sym (ap events_of_tags (tags-on p.reader.page q.reader.page xs ys first.page) ∙ events_append tags more))
-      (hears_both p.matcher.told q.matcher.told r.matcher.told (events_of_tags tags) (events_of_tags more) first.told then.told);
-}
-
--- their matches
-pub matches_on : (p q : Page) (xs ys : List ℕ) → HasRead p q xs → matches_in p (xs ++ ys) ≡ matches_in p xs ++ matches_in q ys
-matches_on p q xs ys first =
-    ap (matches_told p.matcher.told) (tags-on p.reader.page q.reader.page xs ys first.page)
-    ∙ matches_told_on p.matcher.told q.matcher.told (page_tags_from p.reader.page xs) (page_tags_from q.reader.page ys) first.told
-
--- 2. Lines
+-- 1. Lines
 
 pub lines-append : {X : Type 0} (f : X → List ℕ) (xs ys : List X) → flat_map f (xs ++ ys) ≡ flat_map f xs ++ flat_map f ys
 lines-append f [] ys = refl
@@ -73,7 +41,7 @@ pub part-within : (s : List ℕ) (i n : ℕ) → i ≤ length s → n ≤ length
 part-within s i n h k =
     let len : length (take (length s - i) (drop i s)) ≡ length s - i = ap length (take_rest s i) ∙ length-drop i s in omega arith
 
--- 3. A whole page
+-- 2. A whole page
 
 -- All that is written is the lines and what stands behind them.
 pub page_written : (style : Style) (a b c : Option (List ℕ)) (all : List PageMatch) (count : ℕ) → Appends a b (lines_of style all)
@@ -87,5 +55,5 @@ pub consumed_all : (a b c : Option (List ℕ)) (bytes more : List ℕ) (taken : 
 consumed_all a b c bytes more taken before now none =
     subst (Consumes a c) (append-nil bytes) (Consumes-trans a b c bytes [] before (subst (λ (n : ℕ). Consumes b c (take n more)) none now))
 
-pub fresh_matches : (p : Page) (ast : Ast) (esi : Bool) (bytes : List ℕ) → p.reader.page ≡ fresh_page true → p.matcher.told ≡ told_nothing ast esi → matches_in p bytes ≡ page_matches (selectors ast) esi true bytes
+pub fresh_matches : (p : Page (Unit {0})) (ast : Ast) (esi : Bool) (bytes : List ℕ) → p.reader.page ≡ fresh_page true → p.matcher.told ≡ told_nothing ast esi → matches_in p bytes ≡ page_matches (selectors ast) esi true bytes
 fresh_matches p ast esi bytes fresh told = λ i. matches_told (told i) (page_tags_from (fresh i) bytes)

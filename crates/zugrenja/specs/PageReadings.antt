@@ -2,9 +2,9 @@
 use Rattle.std.specs.Prelude.{ℕ, ◌≡◌, Bool, List, [], length, Option, None}
 use Rattle.std.specs.Io.KnownBytes.{Appends, Consumes, IsAtEnd}
 use Rattle.lol_program.specs.declared.ast.Ast.{Ast}
-use Rattle.lol_page.specs.Pages.{events_of_tags, page_after, page_tags_from}
+use Rattle.lol_page.specs.Pages.{page_tags_from}
 use Rattle.lol_matcher.specs.Told.{Told}
-use Rattle.lol_page_matcher.specs.PageMatches.{HearsOn, PageMatch, matches_told}
+use Rattle.lol_page_matcher.specs.PageMatches.{PageMatch, matches_told}
 use Rattle.lol_page_matcher.specs.declared.page.Page.{Page}
 use Rattle.zugrenja.specs.Lines.{page_lines}
 use Rattle.zugrenja.specs.declared.lines.Style.{Style}
@@ -13,13 +13,8 @@ use Rattle.zugrenja.specs.declared.lines.Style.{Style}
 abbrev pub told_nothing : Ast → Bool → Told
 told_nothing ast esi = record { ast = ast; esi = esi; events = []; asked = None }
 
--- Some bytes more were read, and their tags were told.
-pub record HasRead (old new : Page) (bytes : List ℕ) : Type 0 where
-  pub page : new.reader.page ≡ page_after old.reader.page bytes
-  pub told : HearsOn old.matcher.told new.matcher.told (events_of_tags (page_tags_from old.reader.page bytes))
-
 -- the matches in bytes that come now
-abbrev pub matches_in : Page → List ℕ → List PageMatch
+abbrev pub matches_in : Page (Unit {0}) → List ℕ → List PageMatch
 matches_in page bytes = matches_told page.matcher.told (page_tags_from page.reader.page bytes)
 
 -- Bytes were read to their end, the lines of their matches were written and nothing else, and so many they are. `unread` and `left` are what

@@ -2,10 +2,10 @@
 
 ghost use Rattle.std.specs.Prelude.{◌≡◌, ◌+◌, ◌<◌, ◌≤◌, ◌++◌, true, length, take, IfOk, OnOk};
 ghost use Rattle.std.specs.Io.KnownBytes.{Appends, Consumes, IsAtEnd};
-ghost use Rattle.lol_page_matcher.specs.PageMatches.{page_matches};
+ghost use Rattle.lol_page_matcher.specs.PageMatches.{ReadsOn, page_matches};
 ghost use Rattle.lol_vm.specs.Views.{selectors};
 ghost use Rattle.zugrenja.specs.Lines.{end_of, lines_of};
-ghost use Rattle.zugrenja.specs.PageReadings.{HasRead, WritesPage, matches_in, told_nothing};
+ghost use Rattle.zugrenja.specs.PageReadings.{WritesPage, matches_in, told_nothing};
 
 use crate::lines::Style;
 use lol_matcher::Matcher;
@@ -119,7 +119,7 @@ fn write_chunk<W: Write>(
     count: u64,
     writer: &mut W,
 ) -> Result<u64, PageFault>
-    ensures read { OnOk result (HasRead page.old page.new chunk.now) }
+    ensures read { OnOk result (ReadsOn page.old page.new chunk.now) }
     ensures lines { OnOk result (Appends (W.contents writer.old) (W.contents writer.new)
         (lines_of style.now (matches_in page.old chunk.now))) }
     ensures count { IfOk result (λ counted. counted ≡ count + length (matches_in page.old chunk.now)) }
@@ -141,7 +141,7 @@ fn push_matches(
     count: u64,
     lines: &mut Vec<u8>,
 ) -> Result<u64, PageError>
-    ensures read { OnOk result (HasRead page.old page.new chunk.now) }
+    ensures read { OnOk result (ReadsOn page.old page.new chunk.now) }
     ensures lines { OnOk result (lines.new.items
         ≡ lines.old.items ++ lines_of style.now (matches_in page.old chunk.now)) }
     ensures count { IfOk result (λ counted. counted ≡ count + length (matches_in page.old chunk.now)) }
@@ -165,7 +165,7 @@ fn push_match(
 ) -> Result<(usize, u64), PageError>
     ensures within { IfOk result (λ r. r.0 ≤ length rest.now) }
     ensures moved { IfOk result (λ r. 0 < length rest.now → 0 < r.0) }
-    ensures read { IfOk result (λ r. HasRead page.old page.new (take r.0 rest.now)) }
+    ensures read { IfOk result (λ r. ReadsOn page.old page.new (take r.0 rest.now)) }
     ensures lines { IfOk result (λ r.
         lines.new.items ≡ lines.old.items ++ lines_of style.now (matches_in page.old (take r.0 rest.now))) }
     ensures count { IfOk result (λ r. r.1 ≡ length (matches_in page.old (take r.0 rest.now))) }

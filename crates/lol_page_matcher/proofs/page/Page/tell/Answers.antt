@@ -1,38 +1,43 @@
 -- A start tag is told with the attributes of its own bytes.
-use Rattle.std.proofs.Common.{◌≡◌, ℕ, ◌-◌, true, List, [], ◌∷◌, ◌++◌, map, Option, None, sym, ap, subst, ◌∙◌}
+use Rattle.std.proofs.Common.{◌≡◌, ℕ, List, [], ◌∷◌, ◌++◌, Option, None, Err, map, sym, ap, subst, ◌∙◌, refl}
 use Rattle.std.proofs.lemmas.List.{append-nil}
-use Rattle.lol_base.specs.StartTags.{Attribute, StartTag, attribute_of, bytes_of}
+use Rattle.lol_base.specs.StartTags.{StartTag, bytes_of}
 use Rattle.lol_base.specs.declared.namespace.Namespace.{Namespace}
-use Rattle.lol_base.specs.declared.start_tag.AttributeOutline.{AttributeOutline}
-use Rattle.lol_tags.specs.Attributes.{attributes_of, outlines_of}
+use Rattle.lol_stack.specs.Calls.{IsCalledAtEach}
 use Rattle.lol_vm.specs.Answers.{answer, document}
 use Rattle.lol_vm.specs.Events.{Start}
-use Rattle.lol_vm.specs.Views.{selectors}
+use Rattle.lol_vm.specs.Views.{match_of, selectors}
+use Rattle.lol_vm.specs.Vms.{open_after}
 use Rattle.lol_matcher.specs.Last.{matches_in}
+use Rattle.lol_matcher.specs.Noted.{handed_told}
+use Rattle.lol_matcher.specs.Refusing.{refusal_of}
 use Rattle.lol_matcher.specs.Told.{Matching, Told, heard}
+use Rattle.lol_matcher.specs.declared.error.MatcherError.{MatcherError}
 use Rattle.lol_page.specs.Pages.{events_by, written_name, written_start}
-use Rattle.lol_page_matcher.specs.PageMatches.{HearsOn, answers_told, matched_of}
+use Rattle.lol_page_matcher.specs.PageMatches.{HearsOn, answers_told, handed_out_by, matched_of}
+use Rattle.lol_page_matcher.specs.PageRefusals.{FitsTag, RefusesStart, RefusesTag}
+use Rattle.lol_page_matcher.specs.declared.error.PageError.TheVariants.{Matcher}
+use Rattle.lol_page_matcher.proofs.Telling.{are_inside, refuses_start, written_is}
 use Rattle.lol_page_matcher.proofs.page.Page.tell.Goals as goal
 
+pub returns-in_default-clause-closed : goal.returns-in_default-clause-closed
+returns-in_default-clause-closed g c =
+    let m = c.args.self.now.matcher in
+    let tag = c.args.placed.now.tag in
+    let name : c.name-name.result.now ≡ written_name c.args.self.now.reader.text tag =
+    c.name-name.ensures ∙ ap (λ (x : List ℕ). written_name x tag) c.text-text.ensures in
+    rw (c.in_default.is, ← name) c.end_with.ensures.called
+
 pub returns-in-Ok-start_with-clause-told : goal.returns-in-Ok-start_with-clause-told
-returns-in-Ok-start_with-clause-told c =
+returns-in-Ok-start_with-clause-told g c =
     let t = c.args.self.now.matcher.told in
     let tag = c.args.placed.now.tag in
     let text = c.args.self.now.reader.text in
     let ns = c.in-Some.namespace in
-    let outlines = c.push_outlines.new.outlines.items in
-    let found : outlines ≡ outlines_of c.text-text.result.now c.name_end.result =
-    c.in-Ok.ensures.outlines ∙ ap (λ (l : List AttributeOutline). l ++ outlines_of c.text-text.result.now c.name_end.result) c.clear.ensures.items in
-    let attributes : map (attribute_of (bytes_of c.new.result)) outlines ≡ attributes_of text (tag.name_end - tag.start) =
-    ap (λ (b : List ℕ). map (attribute_of b) outlines) c.new.ensures ∙ ap (map (attribute_of c.text-text.result.now)) found
-    ∙ ap (λ (n : ℕ). attributes_of c.text-text.result.now n) c.name_end.ensures
-    ∙ ap (λ (x : List ℕ). attributes_of x (tag.name_end - tag.start)) c.text-text.ensures in
-    let name : c.name-name.result.now ≡ written_name text tag = c.name-name.ensures ∙ ap (λ (x : List ℕ). written_name x tag) c.text-text.ensures in
-    let bare : List ℕ → List Attribute → StartTag = λ n l. record { name = n; namespace = ns; attributes = l; self_closing = tag.self_closing; finish = true } in
-    let same : bare c.name-name.result.now (map (attribute_of (bytes_of c.new.result)) outlines) ≡ written_start text tag ns =
-    ap (λ (n : List ℕ). bare n (map (attribute_of (bytes_of c.new.result)) outlines)) name ∙ ap (bare (written_name text tag)) attributes in
-    let is : c.start_with.new.self.told ≡ record { ast = t.ast; esi = t.esi; events = heard t ++ Start (written_start text tag ns) ∷ []; asked = None } =
-    ap (λ (m : Matching (Unit {0})). m.told) c.in-Ok-start_with.ensures.ok ∙ ap (λ (x : StartTag). record { ast = t.ast; esi = t.esi; events = heard t ++ Start x ∷ []; asked = None }) same in
+    let is : c.start_with.new.self.told ≡ handed_told t (written_start text tag ns) =
+    ap (λ (m : Matching g.row.T.Denot). m.told) c.in-Ok-start_with.ensures.ok
+    ∙ ap (handed_told t) (written_is text c.text-text.result.now (bytes_of c.new.result) c.name-name.result.now tag ns c.name_end.result c.clear.new.self.items c.push_outlines.new.outlines.items
+    c.text-text.ensures c.new.ensures c.name-name.ensures c.name_end.ensures c.clear.ensures.items c.in-Ok.ensures.outlines) in
     let on : HearsOn t c.start_with.new.self.told (Start (written_start text tag ns) ∷ []) = record {
       ast = ap (λ (t : Told). t.ast) is;
       esi = ap (λ (t : Told). t.esi) is;
@@ -41,23 +46,40 @@ returns-in-Ok-start_with-clause-told c =
     subst (λ (o : Option Namespace). HearsOn t c.start_with.new.self.told (events_by text tag o)) (sym c.in-Some.is) on
 
 pub returns-in-Ok-start_with-clause-matched : goal.returns-in-Ok-start_with-clause-matched
-returns-in-Ok-start_with-clause-matched c =
+returns-in-Ok-start_with-clause-matched g c =
     let t = c.args.self.now.matcher.told in
     let tag = c.args.placed.now.tag in
     let text = c.args.self.now.reader.text in
     let ns = c.in-Some.namespace in
-    let outlines = c.push_outlines.new.outlines.items in
-    let found : outlines ≡ outlines_of c.text-text.result.now c.name_end.result =
-    c.in-Ok.ensures.outlines ∙ ap (λ (l : List AttributeOutline). l ++ outlines_of c.text-text.result.now c.name_end.result) c.clear.ensures.items in
-    let attributes : map (attribute_of (bytes_of c.new.result)) outlines ≡ attributes_of text (tag.name_end - tag.start) =
-    ap (λ (b : List ℕ). map (attribute_of b) outlines) c.new.ensures ∙ ap (map (attribute_of c.text-text.result.now)) found
-    ∙ ap (λ (n : ℕ). attributes_of c.text-text.result.now n) c.name_end.ensures
-    ∙ ap (λ (x : List ℕ). attributes_of x (tag.name_end - tag.start)) c.text-text.ensures in
-    let name : c.name-name.result.now ≡ written_name text tag = c.name-name.ensures ∙ ap (λ (x : List ℕ). written_name x tag) c.text-text.ensures in
-    let bare : List ℕ → List Attribute → StartTag = λ n l. record { name = n; namespace = ns; attributes = l; self_closing = tag.self_closing; finish = true } in
-    let same : bare c.name-name.result.now (map (attribute_of (bytes_of c.new.result)) outlines) ≡ written_start text tag ns =
-    ap (λ (n : List ℕ). bare n (map (attribute_of (bytes_of c.new.result)) outlines)) name ∙ ap (bare (written_name text tag)) attributes in
+    let of_tag = λ (x : StartTag). matches_in (answer (selectors t.ast) t.esi (document (selectors t.ast) t.esi (heard t)) (Start x)) in
     sym (ap matches_in c.in-Ok-start_with.ensures.answered)
-    ∙ ap (λ (x : StartTag). matches_in (answer (selectors t.ast) t.esi (document (selectors t.ast) t.esi (heard t)) (Start x))) same
-    ∙ sym (append-nil (matches_in (answer (selectors t.ast) t.esi (document (selectors t.ast) t.esi (heard t)) (Start (written_start text tag ns)))))
+    ∙ ap of_tag (written_is text c.text-text.result.now (bytes_of c.new.result) c.name-name.result.now tag ns c.name_end.result c.clear.new.self.items c.push_outlines.new.outlines.items
+    c.text-text.ensures c.new.ensures c.name-name.ensures c.name_end.ensures c.clear.ensures.items c.in-Ok.ensures.outlines)
+    ∙ sym (append-nil (of_tag (written_start text tag ns)))
     ∙ ap (λ (o : Option Namespace). matched_of (answers_told t (events_by text tag o))) (sym c.in-Some.is)
+
+pub returns-in-Ok-start_with-clause-fits : goal.returns-in-Ok-start_with-clause-fits
+returns-in-Ok-start_with-clause-fits g c =
+    let m = c.args.self.now.matcher in
+    let tag = c.args.placed.now.tag in
+    let text = c.args.self.now.reader.text in
+    let ns = c.in-Some.namespace in
+    let fits : refusal_of m (heard m.told) (written_start text tag ns) ≡ None =
+    ap (refusal_of m (heard m.told)) (sym (written_is text c.text-text.result.now (bytes_of c.new.result) c.name-name.result.now tag ns c.name_end.result c.clear.new.self.items c.push_outlines.new.outlines.items
+    c.text-text.ensures c.new.ensures c.name-name.ensures c.name_end.ensures c.clear.ensures.items c.in-Ok.ensures.outlines)) ∙ c.in-Ok-start_with.ensures.fits in
+    subst (FitsTag m text tag) (sym c.in-Some.is) fits
+
+pub returns-in-Err-clause-refused : goal.returns-in-Err-clause-refused
+returns-in-Err-clause-refused g c =
+    let m = c.args.self.now.matcher in
+    let tag = c.args.placed.now.tag in
+    let text = c.args.self.now.reader.text in
+    let ns = c.in-Some.namespace in
+    let error = c.in-Err.error in
+    let inside = are_inside c.text-text.result.now (bytes_of c.new.result) c.clear.new.self.items c.push_outlines.new.outlines.items c.new.ensures c.clear.ensures.items c.in-Ok.ensures.inside in
+    let refused = refuses_start m _ error (λ e. c.start_with.ensures.failed.0 (c.in-Err.is ∙ ap Err e)) (λ e. c.start_with.ensures.asked (c.in-Err.is ∙ ap Err e))
+    (λ e. (c.start_with.ensures.outside.0 (c.in-Err.is ∙ ap Err e)).1 inside) c.in-Err.ensures.refused in
+    let written : RefusesStart error m (written_start text tag ns) =
+    subst (RefusesStart error m) (written_is text c.text-text.result.now (bytes_of c.new.result) c.name-name.result.now tag ns c.name_end.result c.clear.new.self.items c.push_outlines.new.outlines.items
+    c.text-text.ensures c.new.ensures c.name-name.ensures c.name_end.ensures c.clear.ensures.items c.in-Ok.ensures.outlines) refused in
+    subst (RefusesTag (Matcher error) m text tag) (sym c.in-Some.is) written
