@@ -150,6 +150,7 @@ impl PageReader {
     /// # Errors
     /// `TagTooLong`: the next tag that ends in this chunk is longer than the limit. `PageTooLong`: the page would be longer than `u64::MAX` bytes
     /// with this chunk. `Memory`: an allocation failed. After each of them nothing more is read: every later call answers `Failed`.
+    #[inline(always)]
     pub fn next(&mut self, chunk: &[u8]) -> Result<PageRead, PageReadError>
         ensures within { IfOk result (λ read. read.taken ≤ length chunk.now) }
         ensures after { IfOk result (λ read. self.new.page ≡ page_after self.old.page (take read.taken chunk.now)) }
