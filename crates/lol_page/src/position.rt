@@ -105,7 +105,7 @@ impl Position {
 }
 
 // How many bytes are looked at one by one, before a search that is quick over many.
-const NEAR: usize = 32;
+const NEAR: usize = 128;
 
 // How many bytes at the front end no line.
 #[inline(always)]
