@@ -8,7 +8,7 @@ must refuse each. Those of must-fail are tried by `rt ci` too, each by itself.
     python3 docs/wrong_bodies.py --beside            those that `rt ci` doesn't try
     python3 docs/wrong_bodies.py --singly            each in a check of its own
     python3 docs/wrong_bodies.py --read              reads them alone: each says what it changes, and the sources have that once
-    python3 docs/wrong_bodies.py --page              all, and writes docs/edits.txt from what refused them
+    python3 docs/wrong_bodies.py --page              all, and writes docs/edits.txt from what refused them; with crates' names, their parts of it
 
 An edit is a line 'file: src/..', then pairs of lines 'old: ' and 'new: '; each 'old:' stands once in that file. An edit of a constant names the
 function that is to fail, by a line 'function: OWNER::NAME'. A function is proved from its own
@@ -298,20 +298,23 @@ def kind_of(goal: str) -> str:
     return next((kind for kind, pattern in KINDS if re.search(pattern, goal)), "proof")
 
 
-def write_page(bodies: list[WrongBody]) -> None:
-    """Writes the page anew: of each crate its functions, each with its wrong bodies; those that no clause refuses with what refuses them."""
-    lines = []
-    for crate in sorted({body.crate for body in bodies}):
-        lines += ["", crate]
+def write_page(bodies: list[WrongBody], kept: set[str]) -> None:
+    """Writes the page anew: of each crate its functions, each with its wrong bodies; those that no clause refuses with what refuses them.
+    The parts of the crates that are kept stay as they stand."""
+    parts = {part.partition("\n")[0]: part for part in PAGE.read_text().removeprefix(HEAD).strip("\n").split("\n\n")} if kept else {}
+    parts = {crate: part for crate, part in parts.items() if crate in kept}
+    for crate in {body.crate for body in bodies}:
         rows: dict[str, list[WrongBody]] = {}
         for body in (it for it in bodies if it.crate == crate):
             rows.setdefault(body.name.rpartition(".")[0] or body.name, []).append(body)
+        lines = [crate]
         for function, row in sorted(rows.items()):
             row = sorted(row, key=lambda body: body.kind != "clause")
             told = [("{}" if body.is_in_gate else "*{}*").format(body.name.split(".")[-1].replace("_", " ")) for body in row]
             told = [name if body.kind == "clause" else f"{name} ({body.kind} {body.refused_by})" for body, name in zip(row, told)]
             lines.append(f"  {function}: {'; '.join(told)}")
-    PAGE.write_text(HEAD + "\n".join(lines) + "\n")
+        parts[crate] = "\n".join(lines)
+    PAGE.write_text(HEAD + "\n" + "\n\n".join(parts[crate] for crate in sorted(parts)) + "\n")
 
 
 def lanes() -> int:
@@ -353,8 +356,8 @@ def main() -> int:
     words.add_argument("--page", action="store_true")
     words.add_argument("--jobs", type=int, default=lanes())
     given = words.parse_args()
-    if given.page and (given.crates or given.only or given.beside or given.read):
-        words.error("--page writes the whole file, so it takes no crates, no --only, no --beside and no --read")
+    if given.page and (given.only or given.beside or given.read):
+        words.error("--page tries all of a crate, so it takes no --only, no --beside and no --read")
     rows = crates.rows()
     tried = [Crate(name, rows, bodies) for name in rows if (bodies := bodies_of(name, given))]
     if not given.read:
@@ -365,7 +368,7 @@ def main() -> int:
             print(f"{body.crate}/{body.name}: {body.fault or f'refused, by {body.kind} {body.refused_by}'}")
     failed = [body for body in bodies if body.fault]
     if given.page and not failed:
-        write_page(bodies)
+        write_page(bodies, set(rows) - set(given.crates) if given.crates else set())
     print(f"{len(bodies) - len(failed)} {'read' if given.read else 'passed'}, {len(failed)} failed")
     return 1 if failed or not bodies else 0
 
