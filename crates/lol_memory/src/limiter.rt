@@ -76,6 +76,13 @@ impl SharedMemoryLimiter {
         }
     }
 
+    /// How many bytes more may be counted.
+    pub fn remaining(&self) -> usize
+        ensures { result ≡ self.now.maximum - self.now.usage }
+    {
+        self.max - self.current_usage
+    }
+
     /// Counts `byte_count` bytes less.
     pub fn decrease_usage(&mut self, byte_count: usize)
         requires { byte_count ≤ self.old.usage }
