@@ -1,7 +1,6 @@
 //! What those who use the answers of a run rely on, each law the contract of an empty function.
 
 ghost use Rattle.lol_laws.specs.AskedRuns.{AskedRunsAnswerAlike, ToldGoesOn};
-ghost use Rattle.lol_laws.specs.ToldTags.{ToldIsAnsweredAlike};
 ghost use Rattle.lol_laws.specs.RunLaws.{EndsCloseInside, MarksTellContent, OneIdsPathsDecide, UnaskedAttributesChangeNothing};
 
 /// The content mark of a report is false exactly for an HTML tag with a void name, where ESI is on
@@ -28,14 +27,9 @@ pub fn unasked_attributes_change_nothing()
     ensures { UnaskedAttributesChangeNothing }
 {}
 
-/// A run that is told of the attributes of a start tag only where they are asked for answers what the
-/// run over the tags as they are does, and the same tag is refused first.
+/// A run that is told of the attributes of a start tag only where they are asked for, and of others as it likes, answers what the run over
+/// the tags as they are does. The same tag is refused first, and what comes next is answered and refused alike.
 pub fn asked_runs_answer_alike()
     ensures alike { AskedRunsAnswerAlike }
     ensures goes_on { ToldGoesOn }
-{}
-
-/// What is told of one event, a start tag's attributes only where they are asked for, is answered as the event is.
-pub fn told_tags_answer_alike()
-    ensures { ToldIsAnsweredAlike }
 {}

@@ -19,8 +19,8 @@ use lol_vm::vm_laws::{
     slots_are_of_depth, standing_counts, standing_has_open,
 };
 
-/// A matcher that is told of each tag of a list, and of the attributes of a start tag if it asks for them, answers as a run over that list
-/// (`match_events` of lol_vm). The same tag is refused first.
+/// A matcher that is told of each tag of a list, and of the attributes of a start tag at least if it asks for them and they are at hand,
+/// answers as a run over that list (`match_events` of lol_vm). The same tag is refused first.
 pub fn calls_answer_alike()
     ensures alike { AskedRunsAnswerAlike }
     ensures goes_on { ToldGoesOn }
