@@ -1,7 +1,8 @@
 -- The numbers of tags, and of open elements.
 use Rattle.std.proofs.Common.{◌≡◌, ℕ, ◌+◌, ◌-◌, ◌^◌, Bool, true, false, List, [], ◌∷◌, ◌++◌, length, map, Option, Some, None, refl, sym, ap, ◌∙◌, subst, arith, length-append}
 use Rattle.std.specs.Prelude.{reverse, take, drop, not, ◌&&◌, if◌then◌else◌}
-use Rattle.std.proofs.lemmas.List.{length-map, length-reverse, map-append, reverse-append, take-append-drop, take-map, take_at}
+use Rattle.std.specs.List.{drop-map}
+use Rattle.std.proofs.lemmas.List.{length-map, length-reverse, map-append, reverse-append, take-append-drop, drop_at, take-map, take_at}
 use Rattle.lol_base.specs.StartTags.{StartTag}
 use Rattle.lol_base.specs.declared.namespace.Namespace.{Namespace}
 use Rattle.lol_instructions.specs.Tests.{Element}
@@ -95,3 +96,18 @@ numbered_left {T} name elements old new left were =
     ap (map (λ (e : OpenElement T). e.number)) left
     ∙ (sym (take-map (λ (e : OpenElement T). e.number) (length rest) old)
     ∙ (ap (take (length rest)) (were ∙ ap numbers_open (sym (parts_are index elements))) ∙ numbers_split (inner_part index elements) rest))
+
+-- and those that it closes
+numbers_of_front : (front rest : List Element) → drop (length rest) (numbers_open (front ++ rest)) ≡ numbers_open front
+numbers_of_front front rest =
+    let f = λ (e : Element). in_word e.number in
+    ap (drop (length rest)) (ap reverse (map-append f front rest) ∙ reverse-append (map f front) (map f rest))
+    ∙ drop_at (reverse (map f rest)) (reverse (map f front)) (length rest) (length-reverse (map f rest) ∙ length-map rest f)
+
+pub numbered_closed : {T : Type 0} (name : List ℕ) (elements : List Element) (kept : List (OpenElement T)) → map (λ (e : OpenElement T). e.number) kept ≡ numbers_open elements
+    → map (λ (e : OpenElement T). e.number) (drop (length (open_after name elements)) kept) ≡ numbers_open (inner_part (index_of name elements) elements)
+numbered_closed {T} name elements kept were =
+    let index = index_of name elements in
+    let rest = open_after name elements in
+    sym (drop-map (λ (e : OpenElement T). e.number) (length rest) kept)
+    ∙ (ap (drop (length rest)) (were ∙ ap numbers_open (sym (parts_are index elements))) ∙ numbers_of_front (inner_part index elements) rest)

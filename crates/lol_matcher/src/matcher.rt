@@ -114,6 +114,7 @@ impl<T: Drop> Matcher<T> {
     ghost use Rattle.lol_matcher.specs.Refusing.{Fits, RefusesStart, RefusesStartWith, RefusesFinish, refusal_of};
     ghost use Rattle.lol_matcher.specs.Told.{elements_of, heard, numbers_open};
     ghost use Rattle.lol_reasons.specs.Numbered.{reason_shown};
+    ghost use Rattle.lol_vm.specs.Documents.{index_of, inner_part};
     ghost use Rattle.lol_vm.specs.ReportRoom.{HoldsEachReport};
     ghost use Rattle.lol_vm.specs.Views.{match_of, selectors};
     ghost use Rattle.lol_vm.specs.Vms.{IsTriedAtMost, Stands, data_in, open_after};
@@ -459,6 +460,9 @@ impl<T: Drop> Matcher<T> {
         ensures ended { self.new ≡ with_ended self.old name.now }
         ensures called { IsCalledAtEach F.step handler.old
             (drop (length (open_after name.now self.old.open_elements)) self.old.kept) handler.new }
+        ensures numbered { map (λ element. element.number)
+            (drop (length (open_after name.now self.old.open_elements)) self.old.kept)
+            ≡ numbers_open (inner_part (index_of name.now self.old.open_elements) self.old.open_elements) }
         ensures open { self.old.failed ≡ false → self.new.open_elements ≡ elements_of self.new.told }
     {
         drop_request(&mut self.request, &mut self.tags_told);

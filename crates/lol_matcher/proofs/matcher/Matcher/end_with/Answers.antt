@@ -7,7 +7,7 @@ use Rattle.lol_vm.specs.Vms.{open_after}
 use Rattle.lol_matcher.specs.LastLaws.{last_end}
 use Rattle.lol_matcher.specs.Noted.{ended_told}
 use Rattle.lol_matcher.specs.Told.{History, elements_of, heard}
-use Rattle.lol_matcher.proofs.Numbers.{count_dropped, count_push, numbered_left}
+use Rattle.lol_matcher.proofs.Numbers.{count_dropped, count_push, numbered_closed, numbered_left}
 use Rattle.lol_matcher.proofs.Running.{later_document}
 use Rattle.lol_matcher.proofs.matcher.Matcher.end_with.Goals as goal
 
@@ -50,6 +50,9 @@ returns-clause-ended g c =
 
 pub returns-clause-called : goal.returns-clause-called
 returns-clause-called g c = rw (← c.self.view_is) (c.end_tag.ensures.called c.self.inside.past.history.open_elements c.self.invariant.has_open)
+
+pub returns-clause-numbered : goal.returns-clause-numbered
+returns-clause-numbered g c = rw (← c.self.view_is) (numbered_closed c.args.name.now c.self.inside.past.history.open_elements _ c.self.invariant.numbered)
 
 pub returns-clause-open : goal.returns-clause-open
 returns-clause-open g c = λ well.
