@@ -17,7 +17,14 @@ use lol_base::{AuxStartTagInfo, LocalName, Namespace};
 use lol_memory::{MatchInfo, SharedMemoryLimiter};
 use lol_vm::{SelectorMatchingVm, StartTagError};
 
-/// Tells the machine of a start tag whose attributes are at hand, and keeps what it is reported under: whether its element was opened.
+/// A start tag that was reported: whether its attributes were asked for, and whether its element was opened.
+#[derive(Clone, Copy)]
+pub(crate) struct HandedTag {
+    pub asked: bool,
+    pub opened: bool,
+}
+
+/// Tells the machine of a start tag whose attributes are at hand, and keeps what it is reported under.
 pub(crate) fn hand_tag<T: Drop>(
     vm: &mut SelectorMatchingVm<OpenElement<T>>,
     limiter: &mut SharedMemoryLimiter,
@@ -26,12 +33,15 @@ pub(crate) fn hand_tag<T: Drop>(
     aux_info: AuxStartTagInfo<'_>,
     number: usize,
     matches: &mut Vec<MatchInfo>,
-) -> Result<bool, MatcherError>
+) -> Result<HandedTag, MatcherError>
     requires { RangesAreInside aux_info }
-    ensures told { IfOk result (λ opened.
+    ensures told { IfOk result (λ handed.
         ForHandedTag vm.old limiter.old name.now ns aux_info.entry (λ s esi events tag.
         HoldsEachReport s (vec_capacity matches.old) → IsToldAs s esi events tag (is_asked_for s esi events tag)
-        number opened matches.new.items (allowed vm.old limiter.old) vm.old vm.new limiter.new)) }
+        number handed.opened matches.new.items (allowed vm.old limiter.old) vm.old vm.new limiter.new)) }
+    ensures asked { IfOk result (λ handed.
+        ForHandedTag vm.old limiter.old name.now ns aux_info.entry (λ s esi events tag.
+        handed.asked ≡ is_asked_for s esi events tag)) }
     ensures room { OnOk result (ForHandedTag vm.old limiter.old name.now ns aux_info.entry (λ s esi events tag.
         HoldsEachReport s (vec_capacity matches.old) → HoldsEachReport s (vec_capacity matches.new))) }
     ensures refused { IfErr result (λ error.
@@ -59,7 +69,10 @@ pub(crate) fn hand_tag<T: Drop>(
     };
     let local_name = LocalName::new(name);
     match vm.exec_for_whole_start_tag(local_name, ns, aux_info, limiter, &mut handler) {
-        Ok(_asked) => Ok(number_opened(vm, open_before, number)),
+        Ok(asked) => Ok(HandedTag {
+            asked,
+            opened: number_opened(vm, open_before, number),
+        }),
         Err(StartTagError::MemoryLimitExceeded) => Err(MatcherError::MemoryLimitExceeded),
         Err(StartTagError::CounterFull) => Err(MatcherError::CounterFull),
         Err(StartTagError::Memory) => Err(MatcherError::Memory),

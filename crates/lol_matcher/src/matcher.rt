@@ -112,12 +112,12 @@ impl<T: Drop> Matcher<T> {
     ghost use Rattle.lol_matcher.specs.Last.{HasTries, last_answer, last_opens, matches_in};
     ghost use Rattle.lol_matcher.specs.Noted.{finished_told, handed, handed_told};
     ghost use Rattle.lol_matcher.specs.Refusing.{Fits, RefusesStart, RefusesStartWith, RefusesFinish, refusal_of};
-    ghost use Rattle.lol_matcher.specs.Told.{elements_of, heard, numbers_open};
+    ghost use Rattle.lol_matcher.specs.Told.{elements_of, heard, in_word, numbers_open};
     ghost use Rattle.lol_reasons.specs.Numbered.{reason_shown};
     ghost use Rattle.lol_vm.specs.Documents.{index_of, inner_part};
     ghost use Rattle.lol_vm.specs.ReportRoom.{HoldsEachReport};
     ghost use Rattle.lol_vm.specs.Views.{match_of, selectors};
-    ghost use Rattle.lol_vm.specs.Vms.{IsTriedAtMost, Stands, data_in, open_after};
+    ghost use Rattle.lol_vm.specs.Vms.{IsTriedAtMost, Stands, data_in, is_asked_for, open_after};
 
     /// A matcher for the selectors of a tree.
     pub(crate) fn new(
@@ -195,6 +195,17 @@ impl<T: Drop> Matcher<T> {
             → result ≡ last_opens (selectors self.now.told.ast) self.now.told }
     {
         self.opened
+    }
+
+    /// How many tags were told until one was refused, end tags and one that waits too; a count that a word can't hold stays at the greatest.
+    pub fn tags_told(&self) -> usize
+        ensures { self.now.failed ≡ false → result ≡ in_word (length (heard self.now.told)) }
+    {
+        if self.request.is_some() {
+            self.tags_told.saturating_add(1)
+        } else {
+            self.tags_told
+        }
     }
 
     /// What is kept of the open elements, the outermost first. After `Reported` the last of them is the tag's own if `has_opened`.
@@ -370,7 +381,7 @@ impl<T: Drop> Matcher<T> {
         }
     }
 
-    /// A start tag whose attributes are at hand, in one call: `start`, and `finish` where they are asked for.
+    /// A start tag whose attributes are at hand, in one call: `start`, and `finish` where they are asked for. Returns whether they were.
     ///
     /// # Errors
     /// `Failed` exactly after a refusal; else `OutsideInput` exactly where a range of a name or of a value lies outside the input. Then
@@ -380,7 +391,10 @@ impl<T: Drop> Matcher<T> {
         name: &[u8],
         ns: Namespace,
         aux_info: AuxStartTagInfo<'_>,
-    ) -> Result<(), MatcherError>
+    ) -> Result<bool, MatcherError>
+        ensures was_asked { IfOk result (λ asked. asked
+            ≡ is_asked_for (selectors self.old.told.ast) self.old.told.esi (heard self.old.told)
+            (handed name.now ns aux_info.entry)) }
         ensures reported { OnOk result (map match_of self.new.matched
             ≡ reported_in self.old.told (handed name.now ns aux_info.entry)) }
         ensures answered { OnOk result (IsAnsweredAfter self.old.told (handed name.now ns aux_info.entry) self.new) }
@@ -420,11 +434,11 @@ impl<T: Drop> Matcher<T> {
             self.tags_told,
             &mut self.matches,
         ) {
-            Ok(opened) => {
-                self.opened = opened;
+            Ok(handed_tag) => {
+                self.opened = handed_tag.opened;
                 self.tags_told = self.tags_told.saturating_add(1);
                 self.past = self.past.then(&Note::Handed(name, ns, aux_info));
-                Ok(())
+                Ok(handed_tag.asked)
             }
             Err(error) => {
                 self.failed = true;

@@ -259,7 +259,7 @@ impl<T: Drop> Page<T> {
             self_closing: placed.tag.self_closing,
         };
         match self.matcher.start_with(name, namespace, aux_info) {
-            Ok(()) => Ok(()),
+            Ok(_asked) => Ok(()),
             Err(error) => Err(PageError::Matcher(error)),
         }
     }

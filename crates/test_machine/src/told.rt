@@ -23,7 +23,7 @@ fn start_with(
     ns: Namespace,
     attributes: &Attributes,
     self_closing: bool,
-) -> Result<(), MatcherError> {
+) -> Result<bool, MatcherError> {
     matcher.start_with(name.as_bytes(), ns, attributes.aux_info(self_closing))
 }
 

@@ -79,7 +79,7 @@ fn tell(matcher: &mut Counting, class: &Attributes) -> Result<Met, Stop> {
     Ok(Met::Nothing)
 }
 
-fn start(matcher: &mut Counting, name: &[u8], class: &Attributes) -> Result<(), MatcherError> {
+fn start(matcher: &mut Counting, name: &[u8], class: &Attributes) -> Result<bool, MatcherError> {
     matcher.start_with(name, Namespace::Html, class.aux_info(false))
 }
 

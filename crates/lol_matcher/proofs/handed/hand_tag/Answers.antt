@@ -4,12 +4,13 @@ use Rattle.lol_base.specs.LocalNames.{local_name}
 use Rattle.lol_base.specs.StartTags.{StartTag}
 use Rattle.lol_memory.specs.declared.match_info.MatchInfo.{MatchInfo}
 use Rattle.lol_program.specs.Paths.{Selectors}
-use Rattle.lol_vm.specs.Answers.{Match}
+use Rattle.lol_vm.specs.Answers.{Match, document}
 use Rattle.lol_vm.specs.Events.{Event}
 use Rattle.lol_vm.specs.Vms.{IsRestOf, info_of}
 use Rattle.lol_vm.specs.Openings.{has_room, opens_handed}
 use Rattle.lol_vm.specs.ReportRoom.{HoldsEachReport}
 use Rattle.lol_matcher.specs.Keeping.{IsToldAs, Runs, allowed}
+use Rattle.lol_matcher.specs.LastLaws.{answered}
 use Rattle.lol_matcher.proofs.Charges.{charged_after}
 use Rattle.lol_matcher.proofs.Filled.{HasTaken, takes_on}
 use Rattle.lol_matcher.proofs.Handing.{fits_in, told_as}
@@ -22,11 +23,11 @@ use Rattle.lol_matcher.proofs.handed.hand_tag.Goals.{After-number_opened}
 
 -- a tag that was answered: one with these attributes, where they are asked for
 module _ (g : given.Over) (c : After-number_opened g) (s : Selectors) (esi : Bool) (events : List Event) (runs : Runs s esi events c.args.vm.now c.args.limiter.now) (tag : StartTag) (named : tag.name ≡ c.args.name.now) (spaced : tag.namespace ≡ c.args.ns)
-    (when : c.in-Ok._asked ≡ true → IsRestOf c.args.aux_info tag) where
+    (when : c.in-Ok.asked ≡ true → IsRestOf c.args.aux_info tag) where
   abbrev matched : List Match
   matched = (c.in-Ok.ensures.answered s esi events tag runs.stands (c.new-local_name.ensures ∙ ap local_name (sym named), spaced) when).1.matched
 
-  told : {items : List MatchInfo} → items ≡ map info_of matched → IsToldAs s esi events tag c.in-Ok._asked c.args.number c.number_opened.result items (allowed c.args.vm.now c.args.limiter.now) c.args.vm.now c.number_opened.new.vm c.exec_for_whole_start_tag.new.limiter
+  told : {items : List MatchInfo} → items ≡ map info_of matched → IsToldAs s esi events tag c.in-Ok.asked c.args.number c.number_opened.result items (allowed c.args.vm.now c.args.limiter.now) c.args.vm.now c.number_opened.new.vm c.exec_for_whole_start_tag.new.limiter
   told =
       let laws = c.run_laws.ensures in
       let call = c.exec_for_whole_start_tag.ensures in
@@ -43,19 +44,24 @@ module _ (g : given.Over) (c : After-number_opened g) (s : Selectors) (esi : Boo
       search (rules, collected.0, collected.1)
 
   fits : HoldsEachReport s (vec_capacity c.args.matches.now) → length (map info_of matched) ≤ vec_capacity c.args.matches.now
-  fits = fits_in s esi events tag matched c.in-Ok._asked _ _ (c.in-Ok.ensures.answered s esi events tag runs.stands (c.new-local_name.ensures ∙ ap local_name (sym named), spaced) when).1.answered _
+  fits = fits_in s esi events tag matched c.in-Ok.asked _ _ (c.in-Ok.ensures.answered s esi events tag runs.stands (c.new-local_name.ensures ∙ ap local_name (sym named), spaced) when).1.answered _
 
 pub returns-in-Ok-clause-told : goal.returns-in-Ok-clause-told
 returns-in-Ok-clause-told g c = λ s esi events tag runs named spaced rest holds.
     let a = (goal.at.returns-in-Ok-clause-told g c).After-number_opened in
-    let when = λ (yes : c.in-Ok._asked ≡ true). rest in
-    told_as s esi events tag c.in-Ok._asked c.args.number c.number_opened.result _ (allowed c.args.vm.now c.args.limiter.now) c.args.vm.now c.number_opened.new.vm c.exec_for_whole_start_tag.new.limiter
+    let when = λ (yes : c.in-Ok.asked ≡ true). rest in
+    told_as s esi events tag c.in-Ok.asked c.args.number c.number_opened.result _ (allowed c.args.vm.now c.args.limiter.now) c.args.vm.now c.number_opened.new.vm c.exec_for_whole_start_tag.new.limiter
     (told g a s esi events runs tag named spaced when (taken g a s esi events runs tag named spaced when (fits g a s esi events runs tag named spaced when holds)).0)
+
+pub returns-in-Ok-clause-asked : goal.returns-in-Ok-clause-asked
+returns-in-Ok-clause-asked g c = λ s esi events tag runs named spaced rest.
+    let told = (c.in-Ok.ensures.answered s esi events tag runs.stands (c.new-local_name.ensures ∙ ap local_name (sym named), spaced) (λ yes. rest)).1 in
+    sym (answered s esi (document s esi events) tag told.matched c.in-Ok.asked _ _ told.answered).asks
 
 pub returns-in-Ok-clause-room : goal.returns-in-Ok-clause-room
 returns-in-Ok-clause-room g c = λ s esi events tag runs named spaced rest holds.
     let a = (goal.at.returns-in-Ok-clause-room g c).After-number_opened in
-    let when = λ (yes : c.in-Ok._asked ≡ true). rest in
+    let when = λ (yes : c.in-Ok.asked ≡ true). rest in
     subst (HoldsEachReport s) (sym (taken g a s esi events runs tag named spaced when (fits g a s esi events runs tag named spaced when holds)).1) holds
 
 pub returns-in-Err-MemoryLimitExceeded-clause-refused : goal.returns-in-Err-MemoryLimitExceeded-clause-refused

@@ -93,6 +93,11 @@ invariant_of-self-in-Err g c =
     (ap (map (λ (e : OpenElement g.row.T.Denot). e.number)) (c.in-Err.ensures.unchanged s (t g a).esi (heard (t g a)) (tag g a) (runs g a) refl refl) ∙ c.self.invariant.numbered)
     c.clear.ensures.items
 
+pub returns-in-Ok-clause-was_asked : goal.returns-in-Ok-clause-was_asked
+returns-in-Ok-clause-was_asked g c =
+    let a = (goal.at.returns-in-Ok-clause-was_asked g c).After-hand_tag in
+    rw (← c.self.view_is) (c.in-Ok.ensures.asked (selectors (t g a).ast) (t g a).esi (heard (t g a)) (tag g a) (runs g a) refl refl (refl, refl, refl))
+
 pub returns-in-Ok-clause-reported : goal.returns-in-Ok-clause-reported
 returns-in-Ok-clause-reported g c =
     let a = (goal.at.returns-in-Ok-clause-reported g c).After-hand_tag in
