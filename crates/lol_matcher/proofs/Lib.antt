@@ -13,3 +13,4 @@ pub mod Finishing
 pub mod Collected
 pub mod Reasoned
 pub mod Plainly
+pub mod ToldReasons

@@ -2,6 +2,7 @@
 use Rattle.std.specs.Prelude.{◌≡◌, Bool, List, map, flat_map}
 use Rattle.lol_base.specs.Ascending.{ascending_once}
 use Rattle.lol_base.specs.StartTags.{StartTag}
+use Rattle.lol_laws.specs.AskedRuns.{AreTold}
 use Rattle.lol_program.specs.Asts.{is_with_rows}
 use Rattle.lol_program.specs.Conditions.{pairs_under}
 use Rattle.lol_program.specs.Nodes.{selectors_of}
@@ -43,3 +44,10 @@ abbrev pub ItemsAnswerAsTexts : Type 0
 ItemsAnswerAsTexts =
     (texts : List Text) (numbering : Numbering) → HoldsItems (added_by texts) numbering → (esi : Bool) (events : List Event)
     → AnswersAsTexts texts (record (plain_selectors texts) { by_keys = is_with_rows numbering.ast }) (selectors numbering.ast) esi events
+
+-- The law: what was told is explained as the events are.
+abbrev pub ToldIsExplainedAlike : Type 0
+ToldIsExplainedAlike =
+    (texts : List Text) (numbering : Numbering) → HoldsItems (added_by texts) numbering → (esi : Bool) (events told : List Event)
+    → AreTold (selectors numbering.ast) esi events told
+    → explanations (selectors numbering.ast) esi (added_by texts) told ≡ explanations (selectors numbering.ast) esi (added_by texts) events

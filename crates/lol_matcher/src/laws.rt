@@ -6,12 +6,12 @@ ghost use Rattle.lol_vm.specs.VmLaws.{DataChangeNothing, DataKeepOpen, DataKeepR
 ghost use Rattle.lol_reasons.specs.NumberingLaws.{NumbersNameWhatMatches};
 ghost use Rattle.lol_reasons.specs.ReasonLaws.{EachHasOneReason};
 ghost use Rattle.lol_laws.specs.AskedRuns.{AskedRunsAnswerAlike, ToldGoesOn};
-ghost use Rattle.lol_matcher.specs.Plain.{ItemsAnswerAsTexts};
+ghost use Rattle.lol_matcher.specs.Plain.{ItemsAnswerAsTexts, ToldIsExplainedAlike};
 
 use lol_laws::run_laws::asked_runs_answer_alike;
 use lol_reasons::laws::{
-    numbers_change_reports_alone, numbers_name_what_matches, reasons_explain_reports,
-    texts_add_pairs,
+    innermost_witnesses_are_known, numbers_change_reports_alone, numbers_name_what_matches,
+    reasons_explain_reports, texts_add_pairs, witnesses_say_what_matches,
 };
 use lol_vm::machine_laws::documents_are_ordered;
 use lol_vm::vm_laws::{
@@ -26,6 +26,15 @@ pub fn calls_answer_alike()
     ensures goes_on { ToldGoesOn }
 {
     asked_runs_answer_alike();
+}
+
+/// Such a run's reasons are those for the tags as they are, where the selectors are the items of texts (`Matcher::explain`).
+pub fn told_is_explained_alike()
+    ensures { ToldIsExplainedAlike }
+{
+    asked_runs_answer_alike();
+    innermost_witnesses_are_known();
+    witnesses_say_what_matches();
 }
 
 /// Selectors that have the items of texts under their numbers (`Texts::number_items`) answer as the texts' own, which report the ids of the
