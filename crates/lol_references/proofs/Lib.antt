@@ -1,0 +1,4 @@
+pub mod Parts
+pub mod Characters
+pub mod Pieces
+pub mod Within

@@ -1,0 +1,10 @@
+-- No ampersand was found.
+use Rattle.std.proofs.Common.{◌≡◌, ℕ, true, false, Option, Some, None, length, sym, ◌∙◌, ap}
+use Rattle.std.specs.Option.{is_some}
+use Rattle.memchr.specs.Find.{IsFirstByte, is_byte}
+use Rattle.lol_references.specs.Decoding.{decoded}
+use Rattle.lol_references.proofs.Pieces.{unless_some}
+use Rattle.lol_references.proofs.decode.has_reference.Goals as goal
+
+pub returns : goal.returns
+returns c = λ h. unless_some c.args.value.now c.memchr.result c.memchr.ensures (sym c.is_some.ensures ∙ h)

@@ -1,0 +1,4 @@
+pub mod References
+pub mod Names
+pub mod Numbers
+pub mod Decoding

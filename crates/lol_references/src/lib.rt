@@ -1,0 +1,9 @@
+//! Character references of attribute values, decoded by the tokenization of the HTML Standard (13.2.5.72 to 13.2.5.80).
+#![tactic(auto)]
+
+mod decode;
+mod named;
+mod names;
+mod numeric;
+
+pub use decode::{append_decoded, has_reference};
