@@ -1,5 +1,5 @@
 -- All numbers behind the last code point stand for one character.
-use Rattle.std.proofs.Common.{◌≡◌, ℕ, ◌<◌, ◌≤◌, Bool, true, false, min, refl, ap, ◌∙◌, sym, inl, inr, arith}
+use Rattle.std.proofs.Common.{◌≡◌, ℕ, ◌<◌, Bool, true, false, min, refl, ap, ◌∙◌, sym, inl, inr, arith}
 use Rattle.std.specs.Prelude.{◌||◌, if◌then◌else◌}
 use Rattle.std.proofs.lemmas.Bool.{cases_lt, lt-ltb}
 use Rattle.lol_references.specs.Numbers.{character}
@@ -15,8 +15,8 @@ beyond n h = rw (lt-ltb 0x10FFFF n h) (one_is_true _ _ _ _)
 pub character_of_capped : (n : ℕ) → character (min 0x110000 n) ≡ character n
 character_of_capped n =
     elim (cases_lt n 0x110000) as (λ _. character (min 0x110000 n) ≡ character n) [
-        inl below ↦ let same : min 0x110000 n ≡ n = omega arith in ap (λ m. character m) same
+      | inl below ↦ let same : min 0x110000 n ≡ n = omega arith in ap (λ m. character m) same
       | inr above ↦
-        let same : min 0x110000 n ≡ 0x110000 = omega arith in
-        ap (λ m. character m) same ∙ beyond 0x110000 (omega arith) ∙ sym (beyond n (omega arith))
+          let same : min 0x110000 n ≡ 0x110000 = omega arith in
+          ap (λ m. character m) same ∙ beyond 0x110000 (omega arith) ∙ sym (beyond n (omega arith))
     ]

@@ -1,8 +1,8 @@
 -- No reference has more bytes than there are.
-use Rattle.std.proofs.Common.{◌≡◌, ℕ, zero, suc, ◌+◌, ◌<◌, ◌≤◌, Bool, true, false, List, [], ◌∷◌, length, get_or, take, drop, Option, Some, None, refl, sym, ◌∙◌, ap, inl, inr, arith}
-use Rattle.std.specs.Prelude.{◌==◌, ◌||◌, ◌&&◌, cond, nat_eq, slice_index, unwrap_or, option_and_then, find, position, IfSome, if◌then◌else◌}
+use Rattle.std.proofs.Common.{◌≡◌, ℕ, ◌+◌, ◌≤◌, Bool, true, false, List, [], ◌∷◌, length, take, drop, Option, Some, None, refl, sym, ap, inl, inr, arith}
+use Rattle.std.specs.Prelude.{◌==◌, ◌||◌, cond, nat_eq, slice_index, unwrap_or, option_and_then, find, IfSome, if◌then◌else◌}
 use Rattle.std.specs.Option.{option_map_or}
-use Rattle.std.specs.List.{starts_with, slice_split, prefix_len}
+use Rattle.std.specs.List.{starts_with, slice_split}
 use Rattle.std.specs.Cmp.Lexicographic.{pointwise, same_text}
 use Rattle.std.specs.Char.{is_digit}
 use Rattle.std.proofs.lemmas.Bool.{cases_lt}
@@ -12,7 +12,7 @@ use Rattle.std.proofs.lemmas.List.Quantifiers.{position-Some}
 use Rattle.lol_references.specs.References.{Reference, reference_of}
 use Rattle.lol_references.specs.Numbers.{by_digits, numeric, semicolon_len, digit_count}
 use Rattle.lol_references.specs.Names.{named, named_by, is_left, name_len, begins_with_name, row_of, row_among, part}
-use Rattle.lol_references.specs.Decoding.{ampersand, alone, reference}
+use Rattle.lol_references.specs.Decoding.{ampersand, alone}
 
 abbrev taken_of : Option Reference → ℕ
 taken_of o = (unwrap_or o alone).taken
@@ -28,7 +28,7 @@ semicolon_few false = omega arith
 semicolon_within : (bytes : List ℕ) (len : ℕ) → len ≤ length bytes → len + semicolon_len (slice_index bytes len) ≤ length bytes
 semicolon_within bytes len h =
     elim (cases_lt len (length bytes)) as (λ _. len + semicolon_len (slice_index bytes len) ≤ length bytes) [
-        inl short ↦ let few = semicolon_few (slice_index bytes len == 59) in omega arith
+      | inl short ↦ let few = semicolon_few (slice_index bytes len == 59) in omega arith
       | inr long ↦ rw (get_or_past bytes len 0 long) (omega arith)
     ]
 

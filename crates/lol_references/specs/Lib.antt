@@ -2,3 +2,4 @@ pub mod References
 pub mod Names
 pub mod Numbers
 pub mod Decoding
+pub mod WorkedRows

@@ -5,5 +5,6 @@ mod decode;
 mod named;
 mod names;
 mod numeric;
+pub mod rows;
 
 pub use decode::{append_decoded, has_reference};

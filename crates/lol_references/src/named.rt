@@ -53,7 +53,8 @@ fn begins_with_name(bytes: &[u8], row: &[u8]) -> bool
 fn row_among<'a>(rows: &'a [u8], bytes: &[u8]) -> Option<&'a [u8]>
     ensures { option_copied result ≡ spec.row_among rows.now bytes.now }
 {
-    rows.split(|b| *b == b' ').find(|row| begins_with_name(bytes, row))
+    rows.split(|b| *b == b' ')
+        .find(|row| begins_with_name(bytes, row))
 }
 
 // The row of the longest name with which bytes begin.

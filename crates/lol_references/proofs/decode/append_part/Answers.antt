@@ -1,5 +1,5 @@
 -- One part more is decoded.
-use Rattle.std.proofs.Common.{◌≡◌, ◌∙◌, ◌+◌, ap, refl, length, take, drop, add-one}
+use Rattle.std.proofs.Common.{◌∙◌, ◌+◌, ap, drop, add-one}
 use Rattle.std.proofs.lemmas.List.{take_rest}
 use Rattle.lol_references.proofs.Pieces.{part_added}
 use Rattle.lol_references.proofs.decode.append_part.Goals as goal

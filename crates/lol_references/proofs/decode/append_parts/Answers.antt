@@ -1,5 +1,4 @@
 -- What is behind the last ampersand.
-use Rattle.std.proofs.Common.{◌≡◌}
 use Rattle.lol_references.proofs.Pieces.{rest_added}
 use Rattle.lol_references.proofs.decode.append_parts.Goals as goal
 

@@ -1,8 +1,5 @@
 -- No ampersand was found.
-use Rattle.std.proofs.Common.{◌≡◌, ℕ, true, false, Option, Some, None, length, sym, ◌∙◌, ap}
-use Rattle.std.specs.Option.{is_some}
-use Rattle.memchr.specs.Find.{IsFirstByte, is_byte}
-use Rattle.lol_references.specs.Decoding.{decoded}
+use Rattle.std.proofs.Common.{sym, ◌∙◌}
 use Rattle.lol_references.proofs.Pieces.{unless_some}
 use Rattle.lol_references.proofs.decode.has_reference.Goals as goal
 

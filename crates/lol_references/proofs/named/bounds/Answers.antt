@@ -1,5 +1,5 @@
 -- The bounds of a part, by those of all parts.
-use Rattle.std.proofs.Common.{◌≡◌, suc, add-one, arith}
+use Rattle.std.proofs.Common.{add-one}
 use Rattle.lol_references.proofs.Parts.{bounds_of_parts}
 use Rattle.lol_references.proofs.named.bounds.Goals as goal
 

@@ -1,5 +1,5 @@
 -- One digit more.
-use Rattle.std.proofs.Common.{◌≡◌, ℕ, zero, true, ◌+◌, ◌*◌, ◌<◌, ◌≤◌, min, take, drop, length, get_or, sym, ◌∙◌, ap, refl, inl, inr, ◌⊎◌, arith}
+use Rattle.std.proofs.Common.{◌≡◌, ℕ, zero, ◌+◌, ◌*◌, ◌<◌, ◌≤◌, min, take, get_or, sym, ◌∙◌, ap, inl, inr, arith}
 use Rattle.std.proofs.lemmas.Bool.{cases_lt, lt-ltb}
 use Rattle.std.proofs.Math.Nat.{le-mul_of_pos_right}
 use Rattle.std.proofs.lemmas.List.Sums.{prefix_len-drop_yes}
@@ -12,12 +12,12 @@ use Rattle.lol_references.proofs.numeric.digits.Goals as goal
 capped : (top base n d : ℕ) → zero < base → min top (min top n * base + d) ≡ min top (n * base + d)
 capped top base n d h =
     elim (cases_lt n top) as (λ _. min top (min top n * base + d) ≡ min top (n * base + d)) [
-        inl below ↦ let same : min top n ≡ n = omega arith in ap (λ m. min top (m * base + d)) same
+      | inl below ↦ let same : min top n ≡ n = omega arith in ap (λ m. min top (m * base + d)) same
       | inr above ↦
-        let same : min top n ≡ top = omega arith in
-        let big : top ≤ top * base = le-mul_of_pos_right top h in
-        let bigger : n ≤ n * base = le-mul_of_pos_right n h in
-        ap (λ m. min top (m * base + d)) same ∙ (let e : min top (top * base + d) ≡ min top (n * base + d) = omega arith in e)
+          let same : min top n ≡ top = omega arith in
+          let big : top ≤ top * base = le-mul_of_pos_right top h in
+          let bigger : n ≤ n * base = le-mul_of_pos_right n h in
+          ap (λ m. min top (m * base + d)) same ∙ (let e : min top (top * base + d) ≡ min top (n * base + d) = omega arith in e)
     ]
 
 pub loop-len-preserved : goal.loop-len-preserved
