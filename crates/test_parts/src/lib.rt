@@ -18,6 +18,8 @@ mod names;
 #[cfg(test)]
 mod readings;
 #[cfg(test)]
+mod references;
+#[cfg(test)]
 mod sets;
 #[cfg(test)]
 mod tags;
