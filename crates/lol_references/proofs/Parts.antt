@@ -2,25 +2,18 @@
 use Rattle.std.proofs.Common.{◌≡◌, ℕ, zero, suc, ◌<◌, ◌≤◌, Bool, true, false, List, [], ◌∷◌, length, get_or, refl, arith}
 use Rattle.std.specs.Prelude.{nat_le, ◌&&◌}
 use Rattle.std.proofs.lemmas.Bool.{leb-true}
+use Rattle.lol_references.proofs.Order.{first, second}
 use Rattle.lol_references.specs.declared.names.TheConstants.{NAMES, PARTS}
 
-unfoldable rises : ℕ → List ℕ → ℕ → Bool
+unfoldable pub rises : ℕ → List ℕ → ℕ → Bool
 rises low [] top = nat_le low top
 rises low (n ∷ ns) top = nat_le low n && rises n ns top
 
-table_rises : rises 0 PARTS (length NAMES.now) ≡ true
+pub table_rises : rises 0 PARTS (length NAMES.now) ≡ true
 unfolding rises
 table_rises = refl
 
-first : (a b : Bool) → (a && b) ≡ true → a ≡ true
-first true b h = refl
-first false b h = cc
-
-second : (a b : Bool) → (a && b) ≡ true → b ≡ true
-second true b h = h
-second false b h = cc
-
-bounded : (low : ℕ) (ns : List ℕ) (top : ℕ) → rises low ns top ≡ true → low ≤ top
+pub bounded : (low : ℕ) (ns : List ℕ) (top : ℕ) → rises low ns top ≡ true → low ≤ top
 unfolding rises
 bounded low [] top h = leb-true low top h
 bounded low (n ∷ ns) top h =
@@ -32,7 +25,7 @@ pub record Bounds (ns : List ℕ) (place top : ℕ) : Type 0 where
   pub rise : get_or ns place 0 ≤ get_or ns (suc place) 0
   pub within : get_or ns (suc place) 0 ≤ top
 
-ordered : (low : ℕ) (ns : List ℕ) (top : ℕ) → rises low ns top ≡ true → (place : ℕ) → suc place < length ns → Bounds ns place top
+pub ordered : (low : ℕ) (ns : List ℕ) (top : ℕ) → rises low ns top ≡ true → (place : ℕ) → suc place < length ns → Bounds ns place top
 unfolding rises
 ordered low [] top h place short = absurd (omega arith)
 ordered low (n ∷ []) top h place short = absurd (omega arith)

@@ -1,6 +1,6 @@
 -- Decoding goes piece by piece.
 use Rattle.std.proofs.Common.{◌≡◌, ℕ, zero, suc, ◌<◌, Bool, true, false, List, [], ◌∷◌, ◌++◌, length, get_or, take, drop, refl, sym, ◌∙◌, ap, append_assoc, Option, Some, None, Result, Ok, Err, arith}
-use Rattle.std.specs.Prelude.{◌==◌, is_ok, OnOk, if◌then◌else◌}
+use Rattle.std.specs.Prelude.{◌==◌, is_ok, OnOk, if◌then◌else◌, ◌≢◌, All}
 use Rattle.std.proofs.lemmas.Bool.{eqb-true}
 use Rattle.std.proofs.Math.Seq.{drop-cons, drop-length, take-length}
 use Rattle.std.proofs.lemmas.List.{append-nil}
@@ -16,6 +16,13 @@ not_true false h = refl
 plain : (b : ℕ) (bytes : List ℕ) → (b == 38) ≡ false → decoded (b ∷ bytes) ≡ b ∷ decoded bytes
 unfolding piece
 plain b bytes h = rw h refl
+
+pub others_stay : (before later : List ℕ) → All (λ b. b ≢ 38) before → decoded (before ++ later) ≡ before ++ decoded later
+others_stay [] later h = refl
+others_stay (b ∷ before) later h =
+    let other : (b == 38) ≡ false = not_true (b == 38) (λ e. h 0 0 (omega arith) (eqb-true b 38 e)) in
+    plain b (before ++ later) other
+    ∙ ap (λ (x : List ℕ). b ∷ x) (others_stay before later (λ k d short. h (suc k) d (omega arith)))
 
 behind : (taken : ℕ) (bytes : List ℕ) → decoded_behind taken bytes ≡ decoded (drop taken bytes)
 behind zero [] = refl

@@ -2,6 +2,7 @@
 #![tactic(auto)]
 
 mod decode;
+pub mod laws;
 mod named;
 mod names;
 mod numeric;
