@@ -8,7 +8,8 @@ ghost use Rattle.lol_references.specs.declared.names.TheConstants.{NAMES};
 
 /// Bytes that are no ampersand stand for themselves, whatever is behind them.
 pub fn other_bytes_stay()
-    ensures { (before behind : List ℕ) → All (λ b. b ≢ 38) before → decoded (before ++ behind) ≡ before ++ decoded behind }
+    ensures { (before behind : List ℕ) → All (λ b. b ≢ 38) before
+        → decoded (before ++ behind) ≡ before ++ decoded behind }
 {}
 
 /// The longest name of the whole table is read with which bytes begin: none of the others is longer.
