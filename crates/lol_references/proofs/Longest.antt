@@ -1,15 +1,15 @@
 -- The longest name of the whole table is read: what has no name, and the parts of other letters, have none with which bytes begin.
-use Rattle.std.proofs.Common.{◌≡◌, ℕ, zero, suc, ◌+◌, ◌-◌, ◌*◌, ◌<◌, ◌≤◌, Bool, true, false, List, [], ◌∷◌, ◌++◌, length, get_or, take, drop, Option, Some, None, refl, sym, ◌∙◌, ap, add-one, drop-drop, arith}
+use Rattle.std.proofs.Common.{◌≡◌, ℕ, zero, suc, ◌+◌, ◌-◌, ◌*◌, ◌<◌, ◌≤◌, Bool, true, false, List, [], ◌∷◌, length, get_or, take, drop, Option, Some, None, refl, sym, ◌∙◌, ap, add-one, drop-drop, arith}
 use Rattle.std.specs.Prelude.{◌==◌, nat_eq, nat_le, not, ◌&&◌, ◌||◌, cond, find, filter, is_some, slice_index, slice_range, if◌then◌else◌}
 use Rattle.std.specs.Option.{option_map_or}
-use Rattle.std.specs.List.{list_all, flat_map, starts_with, slice_split}
+use Rattle.std.specs.List.{list_all, flat_map, starts_with}
 use Rattle.std.specs.Char.{is_ascii_alphabetic}
 use Rattle.std.specs.Int.{is_in_range}
 use Rattle.std.proofs.lemmas.Bool.{leb-true, eqb-true}
 use Rattle.std.proofs.lemmas.List.Folds.{list_all-append}
 use Rattle.lol_references.specs.Names.{part, rows, row_of, row_among, name_len, name_end, begins_with_name, is_longer}
-use Rattle.lol_references.proofs.Order.{first, second, both, all_pass, Begins, begun, in_order, no_longer, longest}
-use Rattle.lol_references.proofs.Parts.{rises, table_rises, bounded}
+use Rattle.lol_references.proofs.Order.{first, second, both, all_pass, begun, in_order, no_longer, longest}
+use Rattle.lol_references.proofs.Parts.{rises, table_rises}
 use Rattle.lol_references.specs.declared.names.TheConstants.{NAMES, PARTS}
 
 -- the rows that have a name

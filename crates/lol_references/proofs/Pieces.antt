@@ -5,6 +5,8 @@ use Rattle.std.proofs.lemmas.Bool.{eqb-true}
 use Rattle.std.proofs.Math.Seq.{drop-cons, drop-length, take-length}
 use Rattle.std.proofs.lemmas.List.{append-nil}
 use Rattle.std.specs.Option.{is_some}
+use Rattle.std.specs.List.{list_any}
+use Rattle.std.proofs.Math.Bool.{or-true}
 use Rattle.memchr.specs.Find.{Nowhere, Passes, IsFirstByte, is_byte}
 use Rattle.lol_references.specs.Decoding.{decoded, decoded_behind, piece, ampersand}
 
@@ -62,6 +64,21 @@ without_any bytes none =
 pub unless_some : (bytes : List ℕ) (o : Option ℕ) → IsFirstByte (is_byte 38) bytes o → is_some o ≡ false → decoded bytes ≡ bytes
 unless_some bytes None none h = without_any bytes none
 unless_some bytes (Some place) first h = cc
+
+none_of : (bytes : List ℕ) → Nowhere (Passes (is_byte 38) bytes) 0 (length bytes) → list_any (λ b. b == 38) bytes ≡ false
+none_of [] none = refl
+none_of (b ∷ bytes) none =
+    rw (not_true (b == 38) (none 0 (omega arith) (omega arith))) (none_of bytes (λ k low high. none (suc k) (omega arith) (omega arith)))
+
+one_of : (bytes : List ℕ) (place : ℕ) → place < length bytes → (get_or bytes place 0 == 38) ≡ true → list_any (λ b. b == 38) bytes ≡ true
+one_of [] place short is = absurd (omega arith)
+one_of (b ∷ bytes) zero short is = rw is refl
+one_of (b ∷ bytes) (suc place) short is = rw (one_of bytes place (omega arith) is) (or-true (b == 38))
+
+-- an ampersand was found, if there is one
+pub any_found : (bytes : List ℕ) (o : Option ℕ) → IsFirstByte (is_byte 38) bytes o → is_some o ≡ list_any (λ b. b == 38) bytes
+any_found bytes None none = sym (none_of bytes none)
+any_found bytes (Some place) first = sym (one_of bytes place first.0.high first.1)
 
 -- what stands up to an ampersand, and what that one stands for, are added
 pub part_added : (before between after rest behind left : List ℕ) (place taken : ℕ) → IsFirstByte (is_byte 38) rest (Some place)

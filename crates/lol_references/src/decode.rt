@@ -1,6 +1,7 @@
 //! A value with its references decoded.
 
-ghost use Rattle.std.specs.Prelude.{◌≡◌, ◌++◌, ◌<◌, length, take, false, unwrap_or, OnOk, OnErr, IfOk};
+ghost use Rattle.std.specs.Prelude.{◌≡◌, ◌==◌, ◌++◌, ◌<◌, length, take, false, unwrap_or, OnOk, OnErr, IfOk};
+ghost use Rattle.std.specs.List.{list_any};
 ghost use Rattle.memchr.specs.Find.{IsFirstByte, is_byte};
 ghost use Rattle.lol_references.specs.Numbers as numbers;
 ghost use Rattle.lol_references.specs.Names as names;
@@ -11,9 +12,10 @@ use crate::numeric::numeric;
 use memchr::memchr;
 use std::alloc::AllocError;
 
-/// Whether there may be a reference in an attribute's value: whether it has an ampersand. A value without one is decoded already.
-pub fn has_reference(value: &[u8]) -> bool
-    ensures { result ≡ false → decoded value.now ≡ value.now }
+/// Whether an attribute's value has an ampersand. A value without one stands for itself: there is nothing to decode.
+pub fn has_ampersand(value: &[u8]) -> bool
+    ensures ampersand { result ≡ list_any (λ b. b == 38) value.now }
+    ensures plain { result ≡ false → decoded value.now ≡ value.now }
 {
     memchr(b'&', value).is_some()
 }

@@ -8,4 +8,4 @@ mod names;
 mod numeric;
 pub mod rows;
 
-pub use decode::{append_decoded, has_reference};
+pub use decode::{append_decoded, has_ampersand};

@@ -1,7 +1,7 @@
 //! Character references of attribute values: rows whose answers come from outside, from html5lib's tests of tokenizers and from Python's table.
 //! A definition that reads the Standard wrongly, or a table that lacks a name, would be proved.
 
-use lol_references::{append_decoded, has_reference};
+use lol_references::{append_decoded, has_ampersand};
 use std::alloc::{AllocError, Global};
 use std::test::Fail;
 
@@ -43,8 +43,8 @@ fn decodes(alloc: Global, written: &str, decoded: &str) -> Result<bool, AllocErr
 fn are_decoded(rt: HostRuntime) -> Result<(), Fail> {
     for (written, decoded) in &ROWS {
         assert!(rt; decodes(rt.alloc(), written, decoded)?, "{written}");
-        assert!(rt; has_reference(written.as_bytes()), "{written}");
+        assert!(rt; has_ampersand(written.as_bytes()), "{written}");
     }
-    assert!(rt; !has_reference(b"a=1;amp"));
+    assert!(rt; !has_ampersand(b"a=1;amp"));
     Ok(())
 }
