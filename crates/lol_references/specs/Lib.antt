@@ -3,3 +3,4 @@ pub mod Names
 pub mod Numbers
 pub mod Decoding
 pub mod WorkedRows
+pub mod Attributes

@@ -1,7 +1,10 @@
 //! Character references of attribute values: rows whose answers come from outside, from html5lib's tests of tokenizers and from Python's table.
 //! A definition that reads the Standard wrongly, or a table that lacks a name, would be proved.
 
-use lol_references::{append_decoded, has_ampersand};
+use crate::sets::expect;
+use lol_base::Attributes;
+use lol_references::{append_decoded, has_ampersand, read_decoded};
+use lol_tags::push_outlines;
 use std::alloc::{AllocError, Global};
 use std::test::Fail;
 
@@ -21,9 +24,15 @@ static ROWS: [(&str, &str); 24] = [
     ("&#0169;&#1000000000000;", "\u{A9}\u{FFFD}"),
     ("&ZeroWidthSpace;&zwnj;&zwj;", "\u{200B}\u{200C}\u{200D}"),
     ("&AElig&szlig&yuml;", "\u{C6}\u{DF}\u{FF}"),
-    ("&bne;&vsupne;&NotSucceedsTilde;", "=\u{20E5}\u{228B}\u{FE00}\u{227F}\u{338}"),
+    (
+        "&bne;&vsupne;&NotSucceedsTilde;",
+        "=\u{20E5}\u{228B}\u{FE00}\u{227F}\u{338}",
+    ),
     ("&b.alpha;&nGtv;&Zopf;", "&b.alpha;\u{226B}\u{338}\u{2124}"),
-    ("&thetasym;&there4;&frac34&sup1", "\u{3D1}\u{2234}\u{BE}\u{B9}"),
+    (
+        "&thetasym;&there4;&frac34&sup1",
+        "\u{3D1}\u{2234}\u{BE}\u{B9}",
+    ),
     ("&DoubleLongLeftRightArrow;", "\u{27FA}"),
     ("é&eacute;ê", "ééê"),
     ("javascript&colon;alert(1)", "javascript:alert(1)"),
@@ -47,4 +56,18 @@ fn are_decoded(rt: HostRuntime) -> Result<(), Fail> {
     }
     assert!(rt; !has_ampersand(b"a=1;amp"));
     Ok(())
+}
+
+fn reads_both(alloc: Global) -> Result<bool, AllocError> {
+    let tag = b"<a title='x&amp;y' b>";
+    let mut outlines = Vec::new(alloc);
+    push_outlines(tag, 2, &mut outlines)?;
+    let mut attributes = Attributes::new(alloc);
+    read_decoded(alloc, tag, &outlines, &mut attributes)?;
+    Ok(attributes.aux_info(false).attr_buffer.len() == 2)
+}
+
+#[test]
+fn are_decoded_in_tags(rt: HostRuntime) -> Result<(), Fail> {
+    expect(&rt, reads_both(rt.alloc()))
 }
