@@ -21,8 +21,8 @@ pub fn has_ampersand(value: &[u8]) -> bool
 }
 
 /// Adds an attribute's value, as it is written, behind other bytes, with its character references decoded: names and numbers, in UTF-8. A
-/// reference without a semicolon is left as it is before `=`, a letter or a digit, as the Standard has it for attributes. All other bytes are
-/// added as they are. It takes a number of steps for each byte that is bounded, since a name has at most 32 bytes.
+/// name without a semicolon is left as it is before `=`, a letter or a digit, as the Standard has it for attributes. All other bytes are added
+/// as they are. The steps for each byte are bounded: at an ampersand at most 55 names are tried, those with the same two letters in front.
 ///
 /// # Errors
 /// Out of memory. Then the bytes are as before.
