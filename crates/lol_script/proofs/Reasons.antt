@@ -1,38 +1,6 @@
--- Reasons that are told for a start tag.
-use Rattle.std.proofs.Common.{◌≡◌, ℕ, ◌↔◌, ◌⊎◌, inl, inr, List, [], ◌∷◌, ◌++◌, Contains, sym, ap, ◌∙◌, subst}
+-- The line of a reason, written part by part.
+use Rattle.std.proofs.Common.{◌≡◌, ℕ, List, [], ◌∷◌, ◌++◌, sym, ap, ◌∙◌}
 use Rattle.std.proofs.lemmas.List.{append_assoc}
-use Rattle.std.proofs.lemmas.List.Kept.{AllPairs-from_increasing}
-use Rattle.lol_base.specs.MemberLaws.{among_from_contains, contains-append, contains_from_among}
-use Rattle.lol_memory.specs.AscendingLaws.{ascending_rises}
-use Rattle.lol_memory.specs.Ids.{Ids, ascending, no_ids, with_id}
-use Rattle.lol_program.specs.IdSetLaws.{ascending-no_ids, with_id-IsWith}
-use Rattle.lol_base.specs.Ascending.{ascending_once}
-use Rattle.lol_base.specs.AscendingLaws.{among_ascending, ascending_among, ascending_ascends, ascending_is_determined, pairs_from_ascends}
-
--- The set has these ids.
-abbrev pub HasIds : Ids → List ℕ → Type 0
-HasIds s ids = (x : ℕ) → Contains (ascending s) x ↔ Contains ids x
-
-pub no_ids_more : HasIds no_ids []
-no_ids_more x = (subst (λ (l : List ℕ). Contains l x) ascending-no_ids, subst (λ (l : List ℕ). Contains l x) (sym ascending-no_ids))
-
-pub ids_more : (s : Ids) (ids : List ℕ) (id : ℕ) → HasIds s ids → HasIds (with_id s id) (ids ++ id ∷ [])
-ids_more s ids id same x = (
-  λ h. (contains-append ids (id ∷ []) x).1 (elim ((with_id-IsWith s id x).0 h) [ inl old ↦ inl ((same x).0 old) | inr is ↦ inr (contains_from_among (id ∷ []) x (inl is)) ]),
-  λ h. (with_id-IsWith s id x).1 (elim ((contains-append ids (id ∷ []) x).0 h) [ inl old ↦ inl ((same x).1 old) | inr new ↦ inr (only (among_from_contains (id ∷ []) x new)) ]),
-)
-  where
-    only : (id ≡ x) ⊎ ⊥ → id ≡ x
-    only (inl is) = is
-    only (inr none) = absurd none
-
-pub ids_ascend : (s : Ids) (ids : List ℕ) → HasIds s ids → ascending s ≡ ascending_once ids
-ids_ascend s ids same =
-    ascending_is_determined (ascending s) (ascending_once ids) (AllPairs-from_increasing (ascending s) (ascending_rises s)) (pairs_from_ascends (ascending_once ids) (ascending_ascends ids))
-    (λ id. (
-      λ c. contains_from_among (ascending_once ids) id (ascending_among ids id (among_from_contains ids id ((same id).0 c))),
-      λ c. (same id).1 (contains_from_among ids id (among_ascending ids id (among_from_contains (ascending_once ids) id c))),
-    ))
 
 -- what is added after something else
 pub then_more : (old mid new added more : List ℕ) → mid ≡ old ++ added → new ≡ mid ++ more → new ≡ old ++ (added ++ more)

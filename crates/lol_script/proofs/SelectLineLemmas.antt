@@ -1,12 +1,13 @@
 -- Lines whose texts are read again.
-use Rattle.std.proofs.Common.{◌≡◌, ℕ, ◌+◌, ◌<◌, List, [], ◌∷◌, ◌++◌, length, map, take, drop, get_or, Ok, sym, ap, ◌∙◌, arith}
+use Rattle.std.proofs.Common.{◌≡◌, ℕ, ◌+◌, ◌<◌, List, [], ◌∷◌, ◌++◌, length, map, take, drop, get_or, Result, Ok, Err, refl, sym, ap, ◌∙◌, arith}
 use Rattle.std.specs.Prelude.{min}
 use Rattle.std.specs.List.{flat_map}
 use Rattle.std.proofs.Math.Seq.{drop-append_seam, take-append_seam}
 use Rattle.std.proofs.lemmas.List.{drop_more, get_or-map, length-append, length-map, map-append}
 use Rattle.lol_base.specs.ListLaws.{get_or-any, mapped_more}
 use Rattle.lol_css.specs.Accepting.{accept}
-use Rattle.lol_css.specs.Trees.{Items}
+use Rattle.lol_css.specs.Trees.{Items, NoItems}
+use Rattle.lol_css.specs.declared.error.SelectorError.{SelectorError}
 use Rattle.lol_reasons.specs.Explanations.{Text}
 use Rattle.lol_script.specs.SelectLines.{KeptLine, text_accepted, text_read, with_length}
 use Rattle.lol_script.specs.declared.select_lines.KeptLine as code
@@ -44,3 +45,15 @@ module _ (kept : List KeptLine) (lines : List code.KeptLine) (i : ℕ) (told : L
             ∙ sym (map-append text_accepted told (record { id = (get_or lines i (with_length no_line)).id; items = items } ∷ []))),
         is_after ∙ ((λ j. drop (many j) (here j)) ∙ drop-append_seam k.text more),
       )
+
+-- texts are the same where they are accepted alike
+abbrev text_back : ℕ × Result Items SelectorError → Text
+text_back (id, Ok items) = record { id = id; items = items }
+text_back (id, Err cause) = record { id = id; items = NoItems }
+
+texts_back : (texts : List Text) → map text_back (map text_accepted texts) ≡ texts
+texts_back [] = refl
+texts_back (t ∷ texts) = ap (λ l. t ∷ l) (texts_back texts)
+
+pub same_texts : (xs ys : List Text) → map text_accepted xs ≡ map text_accepted ys → xs ≡ ys
+same_texts xs ys same = sym (texts_back xs) ∙ (ap (map text_back) same ∙ texts_back ys)

@@ -1,96 +1,130 @@
 -- Tags that are answered as their lines are read.
-use Rattle.std.specs.Prelude.{◌≡◌, ℕ, Bool, true, false, List, [], ◌∷◌, ◌++◌, length, map, Option, Ok, decimal}
+use Rattle.std.specs.Prelude.{◌≡◌, ℕ, Bool, true, false, if◌then◌else◌, List, [], ◌∷◌, ◌++◌, map, Option, Some, None, Ok}
 use Rattle.std.specs.List.{concat}
-use Rattle.lol_base.specs.CodePoints.{line_feed}
 use Rattle.lol_base.specs.StartTags.{StartTag}
-use Rattle.lol_reasons.specs.Numbered.{reason_shown}
-use Rattle.lol_reasons.specs.declared.explainer.Reason.{Reason}
-use Rattle.lol_memory.specs.Limiter.{Limiter}
-use Rattle.lol_memory.specs.declared.match_info.MatchInfo.{MatchInfo}
+use Rattle.lol_instructions.specs.Tests.{Element}
+use Rattle.lol_instructions.specs.Tries.{names_counted, attributes_counted}
+use Rattle.lol_laws.specs.AskedRuns.{bare_tag}
+use Rattle.lol_matcher.specs.Answering.{refused_with}
+use Rattle.lol_matcher.specs.Building.{started_with}
+use Rattle.lol_matcher.specs.Refusing.{allowance, refusal_of}
+use Rattle.lol_matcher.specs.Told.{Matching, elements_of, heard, numbers_open}
+use Rattle.lol_matcher.specs.declared.error.MatcherError.{MatcherError}
+use Rattle.lol_matcher.specs.declared.error.MatcherError.TheVariants.{MemoryLimitExceeded, Memory, CounterFull, Failed, NotAsked, OutsideInput}
+use Rattle.lol_program.specs.Asts.{is_with_rows}
 use Rattle.lol_program.specs.Paths.{Selectors}
-use Rattle.lol_vm.specs.Answers.{answer, document}
-use Rattle.lol_vm.specs.Documents.{closed, empty}
-use Rattle.lol_vm.specs.EventRuns.{IsRunOf, answer_with, machine_of}
-use Rattle.lol_vm.specs.Events.{Event, Start, End}
+use Rattle.lol_program.specs.declared.ast.Ast.{Ast}
+use Rattle.lol_vm.specs.Answers.{Answer, Started, Dropped, answer, document}
+use Rattle.lol_vm.specs.Documents.{empty, index_of, inner_part}
+use Rattle.lol_vm.specs.Events.{Event, Start, End, has_content}
 use Rattle.lol_vm.specs.Refusals.{Cause, Limit, Counter, refused}
-use Rattle.lol_vm.specs.RunRefusals.{allowance_of}
-use Rattle.lol_vm.specs.Views.{match_of}
-use Rattle.lol_vm.specs.Follows.{StartedElement}
-use Rattle.lol_vm.specs.Vms.{Vm, data_in, tries_in}
-use Rattle.lol_vm.specs.declared.event_run.EventRun.{EventRun}
-use Rattle.lol_vm.specs.declared.events.RunCause.{RunCause}
-use Rattle.lol_vm.specs.declared.events.RunCause.TheVariants.{MemoryLimitExceeded, CounterFull, Memory}
-use Rattle.lol_vm.specs.declared.events.StartOutcome.{StartOutcome}
+use Rattle.lol_vm.specs.Views.{match_of, selectors}
 use Rattle.lol_script.specs.Devices.{ReadsToEnd}
-use Rattle.lol_script.specs.Explaining.{Explains, IsRunThrough, Tells, limiter_of, lines_by, with_reasons}
-use Rattle.lol_script.specs.FieldLists.{fields_in, list_text, match_field, started_by, was_refused}
-use Rattle.lol_script.specs.Output.{comma_list}
+use Rattle.lol_script.specs.Explaining.{Explains}
 use Rattle.lol_script.specs.ReadLines.{ReadLines}
 use Rattle.lol_script.specs.Readings.{IsReadTo, IsTagLine}
 use Rattle.lol_script.specs.Script.{line_at}
 use Rattle.lol_script.specs.Scripts.{Output, Script, output, output_of, run_output, selectors_in, texts_for}
 use Rattle.lol_script.specs.declared.device.Counted.{Counted}
 use Rattle.lol_script.specs.declared.explained.Explained.{Explained}
-use Rattle.lol_script.specs.declared.output.FieldList.{FieldList}
 use Rattle.lol_script.specs.declared.program.Status.TheVariants as status
-use Rattle.lol_script.specs.declared.script_run.Answering.{Answering}
-use Rattle.lol_script.specs.declared.script_run.Answering.TheVariants.{Plain, WithReasons, Refused}
+use Rattle.lol_script.specs.declared.script_run.Outcome as outcome
+use Rattle.lol_script.specs.declared.script_run.Outcome.TheVariants as outcomes
 use Rattle.lol_script.specs.declared.script_run.ScriptRun.{ScriptRun}
 
--- 1. One tag
+-- 1. What a matcher is told
 
--- A start tag was answered; if memory wasn't refused for the list, it has what the tag is reported under.
-pub record IsStarted (s : Selectors) (esi : Bool) (item_bytes : ℕ) (before : Limiter) (run : EventRun) (events : List Event) (tag : StartTag) (now : Limiter) (outcome : StartOutcome) (matched : FieldList) : Type 0 where
-  pub infos : List MatchInfo
-  pub listed : was_refused matched ≡ false → fields_in matched ≡ map match_field (map match_of infos)
-  pub answered : answer_with outcome infos (tries_in (machine_of run)) ≡ answer s esi (document s esi events) (Start tag)
-  pub goes_on : IsRunOf s esi item_bytes before run (events ++ Start tag ∷ []) now
+-- what it is told of a start tag: all, if its attributes are handed over, and else its name and its namespace
+abbrev pub told_tag : StartTag → StartTag
+told_tag tag = if tag.finish then tag else bare_tag tag.name tag.namespace
 
--- An end tag was answered; if memory wasn't refused for the list, it says what the tag closes.
-pub record IsEnded (s : Selectors) (esi : Bool) (item_bytes : ℕ) (before : Limiter) (run : EventRun) (events : List Event) (name : List ℕ) (now : Limiter) (list : FieldList) : Type 0 where
-  pub listed : was_refused list ≡ false → list_text list ≡ comma_list (map decimal (closed name (document s esi events)))
-  pub goes_on : IsRunOf s esi item_bytes before run (events ++ End name ∷ []) now
+abbrev pub told_event : Event → Event
+told_event (Start tag) = Start (told_tag tag)
+told_event (End name) = End name
+
+-- It was told nothing yet.
+abbrev pub IsNewMatcher : Ast → ℕ → Bool → Matching (Unit {0}) → Type 0
+IsNewMatcher ast limit esi m = m ≡ started_with (record { ast = ast; max_memory = limit; element_bytes = 64; esi = esi }) m.tries
+
+-- what is answered to the last start tag
+abbrev pub answer_with : outcome.Outcome → Matching (Unit {0}) → Answer
+answer_with outcomes.Dropped m = Dropped
+answer_with (outcomes.Reported asked) m = Started (map match_of m.matched) asked (names_counted m.tries) (attributes_counted m.tries)
+
+-- whether it has opened an element
+abbrev pub opens_with : outcome.Outcome → Bool → Bool
+opens_with outcomes.Dropped content = false
+opens_with (outcomes.Reported asked) content = content
+
+-- A matcher keeps its selectors and its settings, and goes on.
+pub record GoesOn (event : Event) (old new : Matching (Unit {0})) : Type 0 where
+  pub ast : new.told.ast ≡ old.told.ast
+  pub esi : new.told.esi ≡ old.told.esi
+  pub memory : new.max_memory ≡ old.max_memory
+  pub bytes : new.element_bytes ≡ old.element_bytes
+  pub going : new.failed ≡ false
+  pub heard_more : heard new.told ≡ heard old.told ++ event ∷ []
+  pub elements : new.open_elements ≡ elements_of new.told
+
+-- A start tag was answered.
+pub record IsStarted (outcome : outcome.Outcome) (tag : StartTag) (old new : Matching (Unit {0})) : Type 0 where
+  pub goes_on : GoesOn (Start tag) old new
+  pub fits : refusal_of old (heard old.told) tag ≡ None
+  pub answered : answer (selectors old.told.ast) old.told.esi (document (selectors old.told.ast) old.told.esi (heard old.told)) (Start tag) ≡ answer_with outcome new
+  pub opened : new.opened ≡ opens_with outcome (has_content old.told.esi tag)
+
+-- A start tag was refused.
+pub record IsStopped (cause : Cause) (tag : StartTag) (old new : Matching (Unit {0})) : Type 0 where
+  pub refused : refusal_of old (heard old.told) tag ≡ Some cause
+  pub after : new ≡ refused_with old new
 
 -- the cause of a refusal that isn't want of memory
-abbrev pub IsCauseOf : RunCause → Cause → Type 0
+abbrev pub IsCauseOf : MatcherError → Cause → Type 0
 IsCauseOf MemoryLimitExceeded cause = cause ≡ Limit
 IsCauseOf CounterFull cause = cause ≡ Counter
 IsCauseOf Memory cause = ⊥
+IsCauseOf Failed cause = ⊥
+IsCauseOf NotAsked cause = ⊥
+IsCauseOf OutsideInput cause = ⊥
+
+-- the numbers of the elements that an end tag closes, of these, the outermost first
+abbrev pub numbers_closed : List Element → List ℕ → List ℕ
+numbers_closed elements name = numbers_open (inner_part (index_of name elements) elements)
 
 -- 2. The tags so far
 
 -- what is written for these events, and how the run ends
 abbrev pub output_for : Selectors → Script → List Event → Output
-output_for selectors s events =
-    run_output (texts_for selectors s empty events) (refused selectors s.esi (allowance_of 64 (limiter_of s)) events)
+output_for selectors s events = run_output (texts_for selectors s empty events) (refused selectors s.esi (allowance 64 s.limit) events)
 
--- whether no tag is answered any more
-abbrev pub has_ended : Answering → Bool
-has_ended Plain = false
-has_ended (WithReasons explained) = false
-has_ended Refused = true
+-- The matcher was told of these events of a script, none of which selectors refuse.
+pub record Hears (p : Selectors) (s : Script) (events : List Event) (m : Matching (Unit {0})) : Type 0 where
+  pub esi : m.told.esi ≡ s.esi
+  pub limit : m.max_memory ≡ s.limit
+  pub bytes : m.element_bytes ≡ 64
+  pub heard_is : heard m.told ≡ events
+  pub elements : m.open_elements ≡ elements_of m.told
+  pub fits : refused p s.esi (allowance 64 s.limit) events ≡ None
 
--- The code's run has answered a script's events: over the selectors, or where reasons are shown over ones whose items stand under their numbers.
-abbrev pub HasRun : Selectors → Script → ScriptRun → Answering → Type 0
-HasRun selectors s code Plain = (s.explains ≡ false) × IsRunThrough selectors s code.run s.events code.limiter
-HasRun selectors s code (WithReasons explained) =
-    (s.explains ≡ true) × (selectors ≡ selectors_in s)
-    × ((numbered : Selectors) × Explains explained s numbered × IsRunThrough numbered s code.run s.events code.limiter)
-HasRun selectors s code Refused = ⊥
+-- Its selectors are these or, if reasons are shown, the items of a script's, each under its number.
+abbrev pub HasSelectors : Selectors → Script → Ast → Option Explained → Type 0
+HasSelectors p s ast None = (s.explains ≡ false) × (p ≡ selectors ast)
+HasSelectors p s ast (Some explained) = (s.explains ≡ true) × (p ≡ selectors_in s) × (is_with_rows ast ≡ (selectors_in s).by_keys) × Explains explained s ast
 
 -- What was written for a script's events: the lines for each of them, unless one was refused; else the whole output, whatever comes later.
 abbrev pub IsWritten : Selectors → Script → ScriptRun → Bool → Type 0
-IsWritten selectors s code false =
-    HasRun selectors s code code.answering × (code.text.items ≡ concat (texts_for selectors s empty s.events))
-IsWritten selectors s code true =
-    (later : List Event) → output_for selectors s (s.events ++ later) ≡ record { text = code.text.items; status = status.Refused }
+IsWritten p s code false =
+    Hears p s (map told_event s.events) code.matcher × HasSelectors p s code.matcher.told.ast code.explained
+    × (code.text.items ≡ concat (texts_for p s empty (map told_event s.events)))
+IsWritten p s code true =
+    (later : List Event) → output_for p s (map told_event (s.events ++ later)) ≡ record { text = code.text.items; status = status.Refused }
 
 -- The code has answered the events of a script.
 pub record Answers (code : ScriptRun) (s : Script) : Type 0 where
   pub selectors : Selectors
-  pub same : (events : List Event) → output_for selectors s events ≡ output_for (selectors_in s) s events
+  pub same : (events : List Event) → output_for selectors s (map told_event events) ≡ output_for (selectors_in s) s events
   pub shows_tries : code.shows_tries ≡ s.shows_tries
-  pub written : IsWritten selectors s code (has_ended code.answering)
+  pub written : IsWritten selectors s code code.matcher.failed
 
 -- For each script whose events the code has answered.
 abbrev pub ForAnswers : ScriptRun → (Script → Type 0) → Type 0
@@ -103,51 +137,7 @@ HasTags s = s.events ≡ [] → ⊥
 abbrev pub IsTagIfFirst : List ℕ → Script → Type 0
 IsTagIfFirst line s = s.events ≡ [] → IsTagLine (line_at line)
 
--- 3. One start tag of a run
-
--- The code was made ready for a start tag, unless a tag was refused.
-abbrev pub IsMadeReady : Bool → Vm StartedElement → Answering → Answering → Type 0
-IsMadeReady going vm Plain new = (going ≡ true) × (new ≡ Plain)
-IsMadeReady going vm (WithReasons old) new =
-    (going ≡ true) × (new ≡ WithReasons (record old { around = length (data_in vm) }))
-IsMadeReady going vm Refused new = (going ≡ false) × (new ≡ Refused)
-
--- the line of the last start tag of a run, by a list of what it is reported under
-abbrev pub line_for : FieldList → Bool → ScriptRun → List ℕ
-line_for list asked code = started_by (list_text list) asked code.shows_tries (tries_in (machine_of code.run))
-
--- The line of a start tag was written, by what it was reported under.
-pub record IsLineWritten (asked : Bool) (old new : ScriptRun) : Type 0 where
-  pub listed : was_refused old.fields ≡ false
-  pub written : new.text.items ≡ old.text.items ++ (line_for old.fields asked old ++ line_feed ∷ [])
-
--- The line of a start tag was written, and those of its reasons.
-pub record AreReasonsWritten (asked : Bool) (explained : Explained) (old new : ScriptRun) : Type 0 where
-  pub told : List Reason
-  pub listed : was_refused old.fields ≡ false
-  pub shown : was_refused new.fields ≡ false
-  pub tells : Tells explained old.run old.fields new.fields told
-  pub written : new.text.items ≡ old.text.items ++ with_reasons explained (line_for new.fields asked old) told
-
-abbrev pub IsPushed : Bool → Answering → ScriptRun → ScriptRun → Type 0
-IsPushed asked Plain old new = IsLineWritten asked old new
-IsPushed asked (WithReasons explained) old new = AreReasonsWritten asked explained old new
-IsPushed asked Refused old new = Unit {0}
-
--- The reasons for the last start tag were found, if they are shown: then the list of fields has their ids.
-abbrev pub AreTold : Answering → ScriptRun → ScriptRun → Type 0
-AreTold Plain old new = new.fields ≡ old.fields
-AreTold (WithReasons explained) old new =
-    (was_refused old.fields ≡ false) × Tells explained old.run old.fields new.fields new.reasons.items
-AreTold Refused old new = Unit {0}
-
--- the lines that are written for reasons, if they are shown
-abbrev pub lines_told : Answering → List Reason → List (List ℕ)
-lines_told Plain told = []
-lines_told (WithReasons explained) told = lines_by explained (map reason_shown told)
-lines_told Refused told = []
-
--- 4. All tags
+-- 3. All tags
 
 module _ {D : Type 0} (remaining : D → Option (List ℕ)) where
   -- For each start of the reading, and the script read from it up to a line, whose events the code has answered.

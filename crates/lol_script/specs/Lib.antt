@@ -1,4 +1,4 @@
-pub mod FieldLists
+pub mod AnswerTexts
 pub mod Devices
 pub mod ReadLines
 pub mod Lines

@@ -9,8 +9,8 @@ ghost use Rattle.lol_base.specs.declared.start_tag.AttributeOutline.{AttributeOu
 ghost use Rattle.lol_script.specs.Lines.{HasOutlines, fields_of, said_by};
 
 use crate::tags::cut_attributes;
+use lol_base::{AttributeBuffer, Namespace};
 use lol_program::ROWS_PAY_FROM;
-use lol_vm::{AttributeBuffer, Namespace};
 use memchr::memchr;
 use std::alloc::AllocError;
 

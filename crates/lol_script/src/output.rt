@@ -1,188 +1,154 @@
 //! The lines of a run as they are written.
 
-ghost use Rattle.std.specs.Prelude.{◌≡◌, ◌≢◌, ◌∷◌, [], ◌++◌, ◌≤◌, IfOk, OnOk, decimal, flat_map, map, reverse, false, true};
+ghost use Rattle.std.specs.Prelude.{◌≡◌, ◌∷◌, [], ◌++◌, ◌≤◌, List, ℕ, IfOk, OnOk, decimal, flat_map, map, reverse, true};
+ghost use Rattle.std.specs.Str.{byte};
 ghost use Rattle.lol_base.specs.CodePoints.{line_feed};
-ghost use Rattle.lol_vm.specs.Views.{match_of};
 ghost use Rattle.lol_instructions.specs.Tries.{names_counted, attributes_counted};
 ghost use Rattle.lol_reasons.specs.Numbered.{reason_shown};
+ghost use Rattle.lol_vm.specs.Views.{match_of};
+ghost use Rattle.lol_script.specs.AnswerTexts.{HasListed, HasListedAs, end_of_start, started_text};
 ghost use Rattle.lol_script.specs.Output.{comma_list, shown_match, shown_reason, tries_field};
-ghost use Rattle.std.specs.Str.{byte};
-ghost use Rattle.lol_script.specs.FieldLists.{AddsField, IsEmptyList, ended_text, fields_in, list_text, match_field, number_field, number_in, shown_field, started_text, was_refused};
-ghost use Rattle.lol_script.specs.declared.output.Filling.TheVariants.{Empty};
 
 use itoa::Buffer;
-use lol_reasons::Reason;
-use lol_vm::{MatchId, MatchInfo, Tries};
-use std::alloc::{AllocError, Global};
+use lol_matcher::{MatchId, MatchInfo, Reason, Tries};
+use std::alloc::AllocError;
 
-/// A field of a list: a number, with `/` after it where the element has no content.
-#[derive(Clone, Copy)]
-pub struct Field {
-    number: u64,
-    with_content: bool,
-}
-
-/// How far a list of fields has come.
+/// How far the list of an end tag's line has come.
 #[derive(Clone, Copy)]
 enum Filling {
     Empty,
     Listed,
-    /// Memory was refused for a field: then none is added any more.
+    /// Memory was refused for a number.
     Refused,
 }
 
-/// The fields of a list, as they come, up to the first that memory was refused for.
+/// The list of an end tag's line, whose numbers come one by one, behind a text.
 #[derive(Drop)]
-pub struct FieldList {
+pub struct ClosedList {
+    text: Vec<u8>,
     filling: Filling,
-
-    /// The first field, if there is one. Most lists end with it.
-    first: Field,
-
-    /// The fields after the first.
-    others: Vec<Field>,
 }
 
-impl FieldList {
-    /// No fields. It takes no memory.
-    pub fn new(alloc: Global) -> Self
-        ensures { IsEmptyList result }
-    {
-        FieldList {
-            filling: Filling::Empty,
-            first: Field {
-                number: 0,
-                with_content: true,
-            },
-            others: Vec::new(alloc),
-        }
-    }
-
-    /// Forgets all fields.
-    pub fn clear(&mut self)
-        ensures { IsEmptyList self.new }
-    {
-        self.filling = Filling::Empty;
-    }
-
-    /// Adds an id, with `/` after it where the element has no content.
-    #[inline(always)]
-    pub fn add_match(&mut self, found: MatchInfo)
-        ensures { AddsField (match_field (match_of found)) self.old self.new }
-    {
-        self.add(Field {
-            number: u64::from(found.match_id),
-            with_content: found.with_content,
-        });
-    }
-
-    /// Adds the number of an element that was open, and so has content.
-    #[inline(always)]
-    pub fn add_number(&mut self, number: usize)
-        ensures { AddsField (number_field number) self.old self.new }
-    {
-        self.add(Field {
-            number: number as u64,
-            with_content: true,
-        });
-    }
-
-    #[inline(always)]
-    fn add(&mut self, field: Field)
-        ensures { AddsField field self.old self.new }
-    {
-        if let Filling::Empty = self.filling {
-            self.others.clear();
-            self.first = field;
-            self.filling = Filling::Listed;
-        } else {
-            self.add_other(field);
-        }
-    }
-
-    #[inline(never)]
-    fn add_other(&mut self, field: Field)
-        ensures { self.old.filling ≢ Empty → AddsField field self.old self.new }
-    {
-        if let Filling::Listed = self.filling
-            && self.others.push(field).is_err()
-        {
-            self.filling = Filling::Refused;
-        }
-    }
-
-    /// The ids of a report's fields, unless memory was refused for them.
-    pub fn ids(&self, alloc: Global) -> Result<Vec<MatchId>, AllocError>
-        ensures refused { OnOk result (was_refused self.now ≡ false) }
-        ensures ids { IfOk result (λ ids. ids.items ≡ map number_in (fields_in self.now)) }
-    {
-        let mut ids = Vec::new(alloc);
-        match self.filling {
-            Filling::Empty => return Ok(ids),
-            Filling::Listed => push_id(&mut ids, self.first)?,
-            Filling::Refused => return Err(AllocError),
-        }
-        for field in &self.others {
-            push_id(&mut ids, *field)?;
-        }
-        Ok(ids)
-    }
-
-    /// Appends the fields, separated by commas, or `-` where there are none, unless memory was refused for them.
-    #[inline(always)]
-    pub fn append_to(&self, text: &mut Vec<u8>) -> Result<(), AllocError>
-        ensures refused { OnOk result (was_refused self.now ≡ false) }
-        ensures appended { OnOk result (text.new.items ≡ text.old.items ++ list_text self.now) }
-    {
-        match self.filling {
-            Filling::Empty => {
-                text.push(b'-')?;
-                return Ok(());
-            }
-            Filling::Listed => push_field(text, self.first)?,
-            Filling::Refused => return Err(AllocError),
-        }
-        if self.others.is_empty() {
-            return Ok(());
-        }
-        push_others(text, &self.others)
-    }
-}
-
-/// Adds the id of a report's field.
-fn push_id(ids: &mut Vec<MatchId>, field: Field) -> Result<(), AllocError>
-    ensures { OnOk result (ids.new.items ≡ ids.old.items ++ number_in field ∷ []) }
-{
-    let Ok(id) = MatchId::try_from(field.number) else {
-        return Err(AllocError);
-    };
-    ids.push(id)?;
-    Ok(())
-}
-
-/// Adds fields, each after a comma.
-#[inline(never)]
-fn push_others(text: &mut Vec<u8>, others: &[Field]) -> Result<(), AllocError>
-    ensures { OnOk result (text.new.items
-        ≡ text.old.items ++ flat_map (λ field. byte "," ∷ shown_field field) others.now) }
-{
-    for field in others {
-        text.push(b',')?;
-        push_field(text, *field)?;
-    }
-    Ok(())
-}
-
-/// Adds a field.
+/// Adds what a start tag is reported under, separated by commas, or `-` where that is nothing. Most lists end with their first.
 #[inline(always)]
-fn push_field(text: &mut Vec<u8>, field: Field) -> Result<(), AllocError>
-    ensures { OnOk result (text.new.items ≡ text.old.items ++ shown_field field) }
+fn push_matches(text: &mut Vec<u8>, matches: &[MatchInfo]) -> Result<(), AllocError>
+    ensures { OnOk result (text.new.items
+        ≡ text.old.items ++ comma_list (map (λ info. shown_match (match_of info)) matches.now)) }
 {
-    push_number(text, field.number)?;
-    if !field.with_content {
+    let Some((first, others)) = matches.split_first() else {
+        text.push(b'-')?;
+        return Ok(());
+    };
+    push_id(text, first.match_id, first.with_content)?;
+    if others.is_empty() {
+        return Ok(());
+    }
+    push_others(text, others)
+}
+
+/// Adds matches, each after a comma.
+#[inline(never)]
+fn push_others(text: &mut Vec<u8>, others: &[MatchInfo]) -> Result<(), AllocError>
+    ensures { OnOk result (text.new.items
+        ≡ text.old.items ++ flat_map (λ info. byte "," ∷ shown_match (match_of info)) others.now) }
+{
+    for info in others {
+        text.push(b',')?;
+        push_id(text, info.match_id, info.with_content)?;
+    }
+    Ok(())
+}
+
+/// Adds ids of an element with content or without, separated by commas, or `-` where there are none.
+pub fn push_ids(text: &mut Vec<u8>, ids: &[MatchId], with_content: bool) -> Result<(), AllocError>
+    ensures { OnOk result (text.new.items ≡ text.old.items ++ comma_list
+        (map (λ id. shown_match (record { id = id; with_content = with_content })) ids.now)) }
+{
+    let Some((first, others)) = ids.split_first() else {
+        text.push(b'-')?;
+        return Ok(());
+    };
+    push_id(text, *first, with_content)?;
+    for id in others {
+        text.push(b',')?;
+        push_id(text, *id, with_content)?;
+    }
+    Ok(())
+}
+
+/// Adds an id, with `/` after it where the element has no content.
+#[inline(always)]
+fn push_id(text: &mut Vec<u8>, id: MatchId, with_content: bool) -> Result<(), AllocError>
+    ensures { OnOk result (text.new.items
+        ≡ text.old.items ++ shown_match (record { id = id; with_content = with_content })) }
+{
+    push_number(text, u64::from(id))?;
+    if !with_content {
         text.push(b'/')?;
     }
     Ok(())
+}
+
+impl ClosedList {
+    /// A list behind a text, before its first number.
+    #[inline(always)]
+    pub fn new(text: Vec<u8>) -> Self
+        ensures { HasListed text.items [] result }
+    {
+        ClosedList {
+            text,
+            filling: Filling::Empty,
+        }
+    }
+
+    /// Adds the number of a closed element.
+    #[inline(always)]
+    pub fn push(&mut self, number: usize)
+        ensures { (before numbers : List ℕ) → HasListed before numbers self.old
+            → HasListed before (numbers ++ number ∷ []) self.new }
+    {
+        match push_listed(&mut self.text, self.filling, number) {
+            Ok(()) => self.filling = Filling::Listed,
+            Err(_) => self.filling = Filling::Refused,
+        }
+    }
+
+    /// The text with the whole list, and the end of its line, unless memory was refused.
+    #[inline(always)]
+    pub fn finish(self) -> Result<Vec<u8>, AllocError>
+        ensures { IfOk result (λ text. (before numbers : List ℕ) → HasListed before numbers self
+            → text.items ≡ before ++ (comma_list (map decimal numbers) ++ line_feed ∷ [])) }
+    {
+        let ClosedList { mut text, filling } = self;
+        match filling {
+            Filling::Empty => text.extend_from_slice(b"-\n")?,
+            Filling::Listed => text.push(b'\n')?,
+            Filling::Refused => return Err(AllocError),
+        }
+        Ok(text)
+    }
+}
+
+/// Adds a number to a list that has come so far.
+#[inline(always)]
+fn push_listed(text: &mut Vec<u8>, filling: Filling, number: usize) -> Result<(), AllocError>
+    ensures { OnOk result ((before numbers : List ℕ) → HasListedAs before numbers filling text.old.items
+        → HasListedAs before (numbers ++ number ∷ []) Filling.Listed text.new.items) }
+{
+    match filling {
+        Filling::Empty => push_number(text, number as u64),
+        Filling::Listed => push_after_comma(text, number),
+        Filling::Refused => Err(AllocError),
+    }
+}
+
+/// Adds a number after a comma.
+#[inline(always)]
+fn push_after_comma(text: &mut Vec<u8>, number: usize) -> Result<(), AllocError>
+    ensures { OnOk result (text.new.items ≡ text.old.items ++ byte "," ∷ decimal number) }
+{
+    text.push(b',')?;
+    push_number(text, number as u64)
 }
 
 /// Adds a number in decimal digits. Most have one.
@@ -243,18 +209,30 @@ pub fn push_line(text: &mut Vec<u8>, line: &[u8]) -> Result<(), AllocError>
     Ok(())
 }
 
-/// Adds the line of a start tag that was reported so.
+/// Adds the line of a start tag that was reported under these.
 pub fn push_started(
     text: &mut Vec<u8>,
-    matched: &FieldList,
+    matches: &[MatchInfo],
     asked: bool,
     tries: Option<Tries>,
 ) -> Result<(), AllocError>
-    ensures { OnOk result ((was_refused matched.now ≡ false) × (text.new.items
-        ≡ text.old.items ++ (started_text (list_text matched.now) asked tries ++ line_feed ∷ []))) }
+    ensures { OnOk result (text.new.items ≡ text.old.items
+        ++ (started_text (map (λ info. match_of info) matches.now) asked tries ++ line_feed ∷ [])) }
 {
     text.extend_from_slice(b"start\t")?;
-    matched.append_to(text)?;
+    push_matches(text, matches)?;
+    push_start_end(text, asked, tries)
+}
+
+/// Adds what stands behind the list of a start tag's line, and ends it.
+#[inline(always)]
+pub fn push_start_end(
+    text: &mut Vec<u8>,
+    asked: bool,
+    tries: Option<Tries>,
+) -> Result<(), AllocError>
+    ensures { OnOk result (text.new.items ≡ text.old.items ++ (end_of_start asked tries ++ line_feed ∷ [])) }
+{
     if asked {
         text.extend_from_slice(b"\tasked")?;
     }
@@ -296,16 +274,5 @@ fn push_outermost_first(text: &mut Vec<u8>, witness: &[usize]) -> Result<(), All
         text.push(b',')?;
         push_number(text, *number as u64)?;
     }
-    Ok(())
-}
-
-/// Adds the line of an end tag that closed these.
-pub fn push_ended(text: &mut Vec<u8>, closed: &FieldList) -> Result<(), AllocError>
-    ensures { OnOk result ((was_refused closed.now ≡ false) × (text.new.items
-        ≡ text.old.items ++ (ended_text (list_text closed.now) ++ line_feed ∷ []))) }
-{
-    text.extend_from_slice(b"end\t")?;
-    closed.append_to(text)?;
-    text.push(b'\n')?;
     Ok(())
 }

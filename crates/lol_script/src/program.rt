@@ -157,10 +157,8 @@ fn answer_lines<R: Read>(
     let Ok(mut run) = ScriptRun::new(alloc, settings) else {
         return Err(Stop::Fault(RunFault::Memory));
     };
-    let answered = answer_tags(reader, lines, &mut run);
-    let made = run.finish();
-    answered?;
-    Ok(made)
+    answer_tags(reader, lines, &mut run)?;
+    Ok(run.finish())
 }
 
 /// Answers the line that the reader stands at and those after it, up to the first that is bad.

@@ -1,71 +1,62 @@
 //! The tags of a script, each answered as its line is read.
 
-ghost use Rattle.std.specs.Prelude.{◌≡◌, ◌≢◌, ◌∷◌, ◌++◌, [], List, IfOk, IfErr, OnOk, Ok, decimal, false, length, map, true};
+ghost use Rattle.std.specs.Prelude.{◌≡◌, ◌∷◌, ◌++◌, [], List, ℕ, IfErr, IfOk, IfSome, IsSome, OnOk, None, Ok, false, true};
 ghost use Rattle.lol_instructions.specs.Tries.{attributes_counted, names_counted};
-ghost use Rattle.lol_memory.specs.Limiter.{Limiter};
+ghost use Rattle.lol_matcher.specs.Answering.{with_ended};
 ghost use Rattle.lol_program.specs.Asts.{is_with_rows};
-ghost use Rattle.lol_program.specs.Paths.{Selectors};
-ghost use Rattle.lol_vm.specs.EventRuns.{ForRunOfEvents, machine_of};
-ghost use Rattle.lol_vm.specs.Events.{Event, Start, End};
-ghost use Rattle.lol_vm.specs.Refusals.{Cause, refused};
-ghost use Rattle.lol_vm.specs.RunRefusals.{StopsFor, allowance_of};
-ghost use Rattle.lol_vm.specs.Views.{match_of, selectors};
-ghost use Rattle.lol_vm.specs.Vms.{tries_in};
-ghost use Rattle.lol_script.specs.Answering.{Answers, AreTold, ForAnswers, HasTags, has_ended, IsCauseOf, IsEnded, IsMadeReady, IsPushed, IsStarted, IsTagIfFirst, lines_told};
-ghost use Rattle.lol_script.specs.Explaining.{Explains, IfExplained, IsNewRun};
-ghost use Rattle.lol_script.specs.FieldLists.{AddsField, match_field, number_field, tries_shown};
+ghost use Rattle.lol_vm.specs.Events.{Start, End};
+ghost use Rattle.lol_vm.specs.Refusals.{Cause};
+ghost use Rattle.lol_script.specs.Answering.{Answers, ForAnswers, HasTags, IsCauseOf, IsNewMatcher, IsStarted, IsStopped, IsTagIfFirst, numbers_closed, told_tag};
+ghost use Rattle.lol_script.specs.AnswerTexts.{HasListed, tries_shown};
+ghost use Rattle.lol_script.specs.Explaining.{Explains, IsReasoned};
 ghost use Rattle.lol_script.specs.Lines.{AreOutlinesOf, start_tag_of};
 ghost use Rattle.lol_script.specs.Output.{lines_of, tries_field};
 ghost use Rattle.lol_script.specs.Readings.{ForReading, Stops};
 ghost use Rattle.lol_script.specs.Scripts as scripts;
 ghost use Rattle.lol_script.specs.Scripts.{output_of, selectors_in, shown_cause, with_bytes, with_event};
 ghost use Rattle.lol_script.specs.SelectLines.{KeepsLines};
-ghost use Rattle.lol_script.specs.declared.script_run.Answering.TheVariants.{Plain, Refused};
 
 use crate::device::RunFault;
 use crate::explained::Explained;
 use crate::lines::{Line, StartLine, line_of};
-use crate::output::{FieldList, push_ended, push_line, push_started};
+use crate::output::{ClosedList, push_line, push_started};
 use crate::program::Status;
 use crate::select_lines::SelectLines;
 use crate::settings::{Settings, Stop, malformed, with_rows_from};
 use crate::tags::handed_over;
-use lol_reasons::Reason;
-use lol_reasons::laws::numbers_change_reports_alone;
-use lol_vm::{
-    Ast, AttributeBuffer, ElementValue, EventRun, LocalName, MatchInfo, RunCause,
-    SharedMemoryLimiter, StartOutcome, Tries,
-};
+use lol_base::AttributeBuffer;
+use lol_matcher::laws::{calls_answer_alike, items_answer_as_texts, told_is_explained_alike};
+use lol_matcher::{Matcher, MatcherError, OpenElement, Started, Tries};
+use lol_program::Ast;
+use lol_vm::machine_laws::documents_are_ordered;
 use std::alloc::{AllocError, Global};
+use std::mem;
 
-/// The size that an open element is charged for.
-const ITEM_BYTES: usize = 64;
-
-/// How tags are answered.
+/// A matcher over the tags of a script, and what is written for those that were answered.
 #[derive(Drop)]
-pub enum Answering {
-    /// Without reasons.
-    Plain,
-    /// With their reasons.
-    WithReasons(Explained),
-    /// Not any more: a tag was refused.
-    Refused,
-}
-
-/// A run over the tags of a script, and what is written for those that were answered. It can't be dropped: it is given to `finish`.
 pub struct ScriptRun {
-    run: EventRun,
-    limiter: SharedMemoryLimiter,
+    alloc: Global,
+    matcher: Matcher,
     shows_tries: bool,
-    answering: Answering,
+
+    /// What explains the reports, if reasons are shown.
+    explained: Option<Explained>,
 
     /// What is written, the refusal too.
     text: Vec<u8>,
 
-    // What each tag needs: its attributes, its ids or numbers, and its reasons.
+    /// The attributes of a tag's line.
     outlines: AttributeBuffer,
-    fields: FieldList,
-    reasons: Vec<Reason>,
+}
+
+/// What became of a start tag.
+#[derive(Clone, Copy)]
+enum Outcome {
+    /// Its attributes were asked for, and aren't handed over.
+    Dropped,
+
+    /// It was reported: whether its attributes were asked for.
+    Reported { asked: bool },
 }
 
 impl ScriptRun {
@@ -73,6 +64,9 @@ impl ScriptRun {
     pub fn new(alloc: Global, settings: Settings) -> Result<Self, AllocError>
         ensures { IfOk result (λ run. ForReading settings (λ s. Answers run s)) }
     {
+        calls_answer_alike();
+        told_is_explained_alike();
+        items_answer_as_texts();
         let Settings {
             limit,
             esi,
@@ -83,16 +77,14 @@ impl ScriptRun {
             selects,
         } = settings;
         let ast = with_rows_from(ast, rows_from);
-        let (run, answering) = new_run(alloc, ast, &selects, explains, esi)?;
+        let (matcher, explained) = new_matcher(alloc, ast, &selects, explains, limit, esi)?;
         Ok(ScriptRun {
-            run,
-            limiter: SharedMemoryLimiter::new(limit as usize),
+            alloc,
+            matcher,
             shows_tries,
-            answering,
+            explained,
             text: Vec::new(alloc),
             outlines: AttributeBuffer::new(alloc),
-            fields: FieldList::new(alloc),
-            reasons: Vec::new(alloc),
         })
     }
 
@@ -126,103 +118,62 @@ impl ScriptRun {
         ensures { OnOk result (ForAnswers self.old (λ s.
             Answers self.new (with_event s (Start (start_tag_of line.entry))))) }
     {
-        if !self.make_ready() {
+        if self.matcher.has_failed() {
             return Ok(());
         }
-        numbers_change_reports_alone();
-        let answered = answer_start(
-            &mut self.run,
-            line,
-            &self.outlines,
-            &mut self.limiter,
-            &mut self.fields,
-        );
-        match answered {
-            Ok(StartOutcome::Dropped) => push_line(&mut self.text, b"dropped"),
-            Ok(StartOutcome::Reported { asked }) => self.push_answer(asked),
-            Err(cause) => self.refuse(cause),
+        if self.matcher.tags_told() == usize::MAX {
+            return Err(AllocError);
         }
-    }
-
-    /// Makes ready for a start tag, unless a tag was refused: then the answer is no.
-    #[inline(always)]
-    fn make_ready(&mut self) -> bool
-        ensures kept { self.new ≡ record self.old { answering = self.new.answering } }
-        ensures ready { IsMadeReady result (machine_of self.old.run) self.old.answering self.new.answering }
-    {
-        match &mut self.answering {
-            Answering::Plain => true,
-            Answering::WithReasons(explained) => {
-                explained.look_around(&self.run);
-                true
-            }
-            Answering::Refused => false,
+        items_answer_as_texts();
+        match answer_start(&mut self.matcher, line, &self.outlines) {
+            Ok(Outcome::Dropped) => push_line(&mut self.text, b"dropped"),
+            Ok(Outcome::Reported { asked }) => self.push_answer(asked),
+            Err(error) => self.refuse(error),
         }
     }
 
     /// Adds the line of a start tag that was reported, and those of its reasons, if they are shown.
     #[inline(always)]
     fn push_answer(&mut self, asked: bool) -> Result<(), AllocError>
-        ensures kept { self.new
-            ≡ record self.old { text = self.new.text; fields = self.new.fields; reasons = self.new.reasons } }
-        ensures text { OnOk result (IsPushed asked self.old.answering self.old self.new) }
+        ensures kept { self.new ≡ record self.old { text = self.new.text; explained = self.new.explained } }
+        ensures text { OnOk result (IsReasoned self.old.matcher self.old.shows_tries asked
+            self.old.text.items self.new.text.items self.old.explained self.new.explained) }
     {
-        self.find_reasons()?;
         let tries = self.shown_tries();
-        push_started(&mut self.text, &self.fields, asked, tries)?;
-        self.push_reasons()
-    }
-
-    /// Finds the reasons for the last start tag, if they are shown. Then the list of fields has their ids.
-    #[inline(always)]
-    fn find_reasons(&mut self) -> Result<(), AllocError>
-        ensures kept { self.new ≡ record self.old { fields = self.new.fields; reasons = self.new.reasons } }
-        ensures told { OnOk result (AreTold self.old.answering self.old self.new) }
-    {
-        let Answering::WithReasons(explained) = &self.answering else {
-            return Ok(());
-        };
-        explained.find_reasons(&self.run, &mut self.fields, &mut self.reasons)
-    }
-
-    /// Adds the lines of the reasons, if they are shown.
-    #[inline(always)]
-    fn push_reasons(&mut self) -> Result<(), AllocError>
-        ensures kept { self.new ≡ record self.old { text = self.new.text } }
-        ensures text { OnOk result (self.new.text.items ≡ self.old.text.items
-            ++ lines_of (lines_told self.old.answering self.old.reasons.items)) }
-    {
-        let Answering::WithReasons(explained) = &self.answering else {
-            return Ok(());
-        };
-        explained.push_reasons(&mut self.text, &self.reasons)
+        match &mut self.explained {
+            None => push_started(&mut self.text, self.matcher.matches(), asked, tries),
+            Some(explained) => {
+                explained.push_started(self.alloc, &mut self.text, &self.matcher, asked, tries)
+            }
+        }
     }
 
     /// What was tried for the last start tag, if tries are shown.
     #[inline(always)]
     fn shown_tries(&self) -> Option<Tries>
         ensures { tries_shown result ≡ tries_field self.now.shows_tries
-            (names_counted (tries_in (machine_of self.now.run)))
-            (attributes_counted (tries_in (machine_of self.now.run))) }
+            (names_counted self.now.matcher.tries) (attributes_counted self.now.matcher.tries) }
     {
         if self.shows_tries {
-            Some(self.run.tries())
+            Some(self.matcher.tries())
         } else {
             None
         }
     }
 
-    /// Says why a start tag was refused, after which no tag is answered.
-    fn refuse(&mut self, cause: RunCause) -> Result<(), AllocError>
-        ensures kept { self.new ≡ record self.old { text = self.new.text; answering = Refused } }
-        ensures text { OnOk result ((shown : Cause) × IsCauseOf cause shown
-            × (self.new.text.items ≡ self.old.text.items ++ lines_of (shown_cause shown ∷ []))) }
+    /// Says why a start tag was refused.
+    fn refuse(&mut self, error: MatcherError) -> Result<(), AllocError>
+        ensures kept { self.new ≡ record self.old { text = self.new.text } }
+        ensures text { OnOk result ((cause : Cause) × IsCauseOf error cause
+            × (self.new.text.items ≡ self.old.text.items ++ lines_of (shown_cause cause ∷ []))) }
     {
-        self.answering = Answering::Refused;
-        match cause {
-            RunCause::MemoryLimitExceeded => push_line(&mut self.text, b"refused limit"),
-            RunCause::CounterFull => push_line(&mut self.text, b"refused counter"),
-            RunCause::Memory => Err(AllocError),
+        match error {
+            MatcherError::MemoryLimitExceeded => push_line(&mut self.text, b"refused limit"),
+            MatcherError::CounterFull => push_line(&mut self.text, b"refused counter"),
+            MatcherError::Memory
+            | MatcherError::Failed
+            | MatcherError::NotAsked
+            | MatcherError::OutsideInput => Err(AllocError),
         }
     }
 
@@ -230,20 +181,19 @@ impl ScriptRun {
     fn take_end(&mut self, name: &[u8]) -> Result<(), AllocError>
         ensures { OnOk result (ForAnswers self.old (λ s. Answers self.new (with_event s (End name.now)))) }
     {
-        if self.is_refused() {
+        if self.matcher.has_failed() {
             return Ok(());
         }
-        numbers_change_reports_alone();
-        answer_end(&mut self.run, name, &mut self.fields)?;
-        push_ended(&mut self.text, &self.fields)
-    }
-
-    /// Whether a tag was refused, so that no other is answered.
-    #[inline(always)]
-    fn is_refused(&self) -> bool
-        ensures { result ≡ has_ended self.now.answering }
-    {
-        matches!(self.answering, Answering::Refused)
+        if self.matcher.tags_told() == usize::MAX {
+            return Err(AllocError);
+        }
+        items_answer_as_texts();
+        documents_are_ordered();
+        self.text.extend_from_slice(b"end\t")?;
+        let mut list = ClosedList::new(mem::replace(&mut self.text, Vec::new(self.alloc)));
+        close(&mut self.matcher, name, &mut list);
+        self.text = list.finish()?;
+        Ok(())
     }
 
     /// What is written, and how the run ends.
@@ -251,118 +201,90 @@ impl ScriptRun {
         ensures { ForAnswers self (λ s. output_of (Ok s)
             ≡ record { text = result.0.items; status = result.1 }) }
     {
-        numbers_change_reports_alone();
-        let status = if self.is_refused() {
+        let status = if self.matcher.has_failed() {
             Status::Refused
         } else {
             Status::Good
         };
-        let ScriptRun {
-            run,
-            limiter: _,
-            shows_tries: _,
-            answering: _,
-            text,
-            outlines: _,
-            fields: _,
-            reasons: _,
-        } = self;
-        run.discard();
-        (text, status)
+        (self.text, status)
     }
 }
 
-/// A run over selectors or, if reasons are shown, over those of these lines, with rows or without as the tree is, and how its tags are answered.
-fn new_run(
+/// A matcher of a tree's selectors.
+fn matcher_of(alloc: Global, ast: Ast, limit: u64, esi: bool) -> Result<Matcher, AllocError>
+    ensures { IfOk result (IsNewMatcher ast limit esi) }
+{
+    let mut settings = Matcher::builder(alloc);
+    settings.set_tree(ast);
+    settings.max_memory(limit as usize);
+    settings.enable_esi_tags(esi);
+    settings.build()
+}
+
+/// A matcher over selectors or, if reasons are shown, over the items of those of these lines, with rows or without as the tree is, and what
+/// explains its reports.
+fn new_matcher(
     alloc: Global,
     ast: Ast,
     selects: &SelectLines,
     explains: bool,
+    limit: u64,
     esi: bool,
-) -> Result<(EventRun, Answering), AllocError>
-    ensures plain { explains ≡ false
-        → IfOk result (λ made. (made.1 ≡ Plain) × IsNewRun (selectors ast) esi made.0) }
-    ensures explained { explains ≡ true → IfOk result (λ made. IfExplained made.1 (λ explained.
+) -> Result<(Matcher, Option<Explained>), AllocError>
+    ensures plain { explains ≡ false → IfOk result (λ made.
+        (made.1 ≡ None) × IsNewMatcher ast limit esi made.0) }
+    ensures explained { explains ≡ true → IfOk result (λ made. IfSome made.1 (λ explained.
         (s : scripts.Script) → KeepsLines selects.now s.selects → is_with_rows ast ≡ (selectors_in s).by_keys
-        → (numbered : Selectors) × Explains explained s numbered × IsNewRun numbered esi made.0)) }
+        → Explains explained s made.0.told.ast × (is_with_rows made.0.told.ast ≡ (selectors_in s).by_keys)
+        × IsNewMatcher made.0.told.ast limit esi made.0)) }
+    ensures explains { explains ≡ true → IfOk result (λ made. IsSome made.1) }
 {
-    if explains {
-        let (run, explained) = explained_run(alloc, selects, ast.has_rows(), esi)?;
-        return Ok((run, Answering::WithReasons(explained)));
+    if !explains {
+        return Ok((matcher_of(alloc, ast, limit, esi)?, None));
     }
-    Ok((
-        EventRun::new(alloc, ast, ITEM_BYTES, esi)?,
-        Answering::Plain,
-    ))
+    let numbering = selects.number_items(alloc, ast.has_rows())?;
+    let matcher = matcher_of(alloc, numbering.ast, limit, esi)?;
+    let explained = Explained::new(alloc, selects, numbering.explainer, &matcher)?;
+    Ok((matcher, Some(explained)))
 }
 
-/// A run over the selectors of these lines, and what explains its reports.
-fn explained_run(
-    alloc: Global,
-    selects: &SelectLines,
-    has_rows: bool,
-    esi: bool,
-) -> Result<(EventRun, Explained), AllocError>
-    ensures { IfOk result (λ made. (s : scripts.Script) → KeepsLines selects.now s.selects
-        → has_rows ≡ (selectors_in s).by_keys
-        → (numbered : Selectors) × Explains made.1 s numbered × IsNewRun numbered esi made.0) }
-{
-    let (ast, mut explained) = Explained::new(alloc, selects, has_rows)?;
-    let run = EventRun::new(alloc, ast, ITEM_BYTES, esi)?;
-    match explained.index(&run) {
-        Ok(()) => Ok((run, explained)),
-        Err(_) => {
-            run.discard();
-            Err(AllocError)
-        }
-    }
-}
-
-/// Answers a start tag with what it is reported under.
+/// Tells a matcher of a start tag, whose attributes are handed over if its line says so.
 fn answer_start(
-    run: &mut EventRun,
+    matcher: &mut Matcher,
     line: StartLine<'_>,
     outlines: &AttributeBuffer,
-    limiter: &mut SharedMemoryLimiter,
-    matched: &mut FieldList,
-) -> Result<StartOutcome, RunCause>
-    requires { AreOutlinesOf line.attributes outlines.now.items }
-    ensures goes { IfOk result (λ outcome. ForRunOfEvents run.old limiter.old (λ s esi item_bytes before events.
-        IsStarted s esi item_bytes before run.new events (start_tag_of line.entry) limiter.new outcome matched.new)) }
-    ensures refused { IfErr result (λ cause. cause ≢ RunCause.Memory
-        → ForRunOfEvents run.old limiter.old (λ s esi item_bytes before events.
-        (later : List Event) → StopsFor cause (length events)
-        (refused s esi (allowance_of item_bytes before) (events ++ Start (start_tag_of line.entry) ∷ later)))) }
+) -> Result<Outcome, MatcherError>
+    requires outlines { AreOutlinesOf line.attributes outlines.now.items }
+    requires going { matcher.old.failed ≡ false }
+    ensures started { IfOk result (λ outcome.
+        IsStarted outcome (told_tag (start_tag_of line.entry)) matcher.old matcher.new) }
+    ensures stopped { IfErr result (λ error. (cause : Cause) → IsCauseOf error cause
+        → IsStopped cause (told_tag (start_tag_of line.entry)) matcher.old matcher.new) }
 {
-    matched.clear();
-    let rest = handed_over(line, outlines);
-    let mut handler = |info: MatchInfo|
-        ensures { AddsField (match_field (match_of info)) matched.entry.now matched.exit.now }
-    {
-        matched.add_match(info);
-    };
-    run.start(
-        LocalName::new(line.name),
-        line.ns,
-        rest,
-        limiter,
-        &mut handler,
-    )
+    if line.finish {
+        return match matcher.start_with(line.name, line.ns, handed_over(line, outlines)) {
+            Ok(asked) => Ok(Outcome::Reported { asked }),
+            Err(error) => Err(error),
+        };
+    }
+    match matcher.start(line.name, line.ns) {
+        Ok(Started::Reported) => Ok(Outcome::Reported { asked: false }),
+        Ok(Started::NeedsAttributes) => Ok(Outcome::Dropped),
+        Err(error) => Err(error),
+    }
 }
 
-/// Answers an end tag with the numbers of the elements that it closes.
-fn answer_end(run: &mut EventRun, name: &[u8], closed: &mut FieldList) -> Result<(), AllocError>
-    ensures { OnOk result ((now : Limiter) → ForRunOfEvents run.old now (λ s esi item_bytes before events.
-        IsEnded s esi item_bytes before run.new events name.now now closed.new)) }
+/// Tells a matcher of an end tag, and lists the numbers of the elements that it closes.
+fn close(matcher: &mut Matcher, name: &[u8], list: &mut ClosedList)
+    ensures ended { matcher.new ≡ with_ended matcher.old name.now }
+    ensures listed { (before : List ℕ) → HasListed before [] list.old
+        → HasListed before (numbers_closed matcher.old.open_elements name.now) list.new }
 {
-    closed.clear();
-    let mut handler = |element: ElementValue<usize>|
-        ensures { AddsField (number_field element.value) closed.entry.now closed.exit.now }
+    let mut handler = |element: OpenElement<()>|
+        ensures { (before numbers : List ℕ) → HasListed before numbers list.entry.now
+            → HasListed before (numbers ++ element.number ∷ []) list.exit.now }
     {
-        closed.add_number(element.value);
+        list.push(element.number);
     };
-    match run.end(LocalName::new(name), &mut handler) {
-        Ok(()) => Ok(()),
-        Err(_) => Err(AllocError),
-    }
+    matcher.end_with(name, &mut handler);
 }

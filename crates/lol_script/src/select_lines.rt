@@ -3,13 +3,18 @@
 ghost use Rattle.std.specs.Prelude.{◌≡◌, ◌++◌, ◌∷◌, [], List, IfOk, IfSome, OnOk, Ok, map};
 ghost use Rattle.lol_css.specs.Accepting.{accept};
 ghost use Rattle.lol_css.specs.TreeViews.{list_of};
-ghost use Rattle.lol_reasons.specs.Numbered.{texts_in};
+ghost use Rattle.lol_program.specs.Asts.{is_with_rows};
+ghost use Rattle.lol_reasons.specs.Explanations.{added_by};
+ghost use Rattle.lol_reasons.specs.Numbered.{HoldsItems, texts_in as read_texts};
+ghost use Rattle.lol_script.specs.Scripts as scripts;
+ghost use Rattle.lol_script.specs.Scripts.{texts_in};
 ghost use Rattle.lol_script.specs.SelectLines as lines;
-ghost use Rattle.lol_script.specs.SelectLines.{Keeps, text_accepted, text_read};
+ghost use Rattle.lol_script.specs.SelectLines.{Keeps, KeepsLines, text_accepted, text_read};
 
 use crate::lines::text_of;
-use lol_reasons::Texts;
-use lol_vm::Selector;
+use crate::settings::with_rows_if;
+use lol_css::Selector;
+use lol_matcher::{Numbering, Texts};
 use std::alloc::{AllocError, Global};
 
 /// The number of a `select` line, its id, and how many bytes its text has.
@@ -66,7 +71,7 @@ impl SelectLines {
     /// The selectors of the lines, under their ids. Each text is read again.
     pub fn read(&self, alloc: Global) -> Result<Texts, AllocError>
         ensures { IfOk result (λ read. (kept : List lines.KeptLine) → Keeps self.now kept
-            → map text_read kept ≡ map text_accepted (texts_in read)) }
+            → map text_read kept ≡ map text_accepted (read_texts read)) }
     {
         let mut read = Texts::new(alloc);
         let mut rest = self.texts.as_slice();
@@ -76,6 +81,21 @@ impl SelectLines {
             rest = after;
         }
         Ok(read)
+    }
+
+    /// The items of the lines' selectors, each under a number of its own, in a tree with rows or without.
+    pub fn number_items(&self, alloc: Global, has_rows: bool) -> Result<Numbering, AllocError>
+        ensures { IfOk result (λ numbering. (s : scripts.Script) → KeepsLines self.now s.selects
+            → HoldsItems (added_by (texts_in s)) numbering × (is_with_rows numbering.ast ≡ has_rows)) }
+    {
+        let Ok(numbering) = self.read(alloc)?.number_items() else {
+            return Err(AllocError);
+        };
+        let ast = with_rows_if(numbering.ast, has_rows);
+        Ok(Numbering {
+            ast,
+            explainer: numbering.explainer,
+        })
     }
 }
 

@@ -19,7 +19,9 @@ use crate::device::{Counted, RunFault};
 use crate::line_reader::LineReader;
 use crate::lines::{Line, Setting, line_of};
 use crate::select_lines::SelectLines;
-use lol_vm::{Ast, AttributeBuffer, Selector, SelectorError};
+use lol_base::AttributeBuffer;
+use lol_css::{Selector, SelectorError};
+use lol_program::Ast;
 use std::alloc::Global;
 use std::io::Read;
 

@@ -1,14 +1,14 @@
 //! The tags of a script.
 
-ghost use Rattle.std.specs.Prelude.{◌≡◌, ◌≤◌, IfOk, IfSome, OnOk, All, length, map, position, slice_range};
+ghost use Rattle.std.specs.Prelude.{◌≡◌, ◌≤◌, true, IfOk, OnOk, All, length, map, position, slice_range};
 ghost use Rattle.std.specs.List.{list_all, slice_split};
 ghost use Rattle.lol_base.specs.StartTags.{attribute_of, OutlineIsInside, RangesAreInside};
-ghost use Rattle.lol_vm.specs.Follows.{IsHandedOver};
+ghost use Rattle.lol_matcher.specs.Noted.{handed};
 ghost use Rattle.lol_script.specs.Script.{is_equals, is_named, is_tab, attribute_at};
 ghost use Rattle.lol_script.specs.Lines.{AreOutlinesOf, fields_of, start_tag_of};
 
 use crate::lines::{StartLine, byte_offset, has_name};
-use lol_vm::{AttributeBuffer, AttributeOutline, AuxStartTagInfo, Bytes, Range};
+use lol_base::{AttributeBuffer, AttributeOutline, AuxStartTagInfo, Bytes, Range};
 use std::alloc::AllocError;
 
 /// The outline of the attribute that stands from `start` up to `end`.
@@ -79,22 +79,20 @@ pub fn cut_attributes(
     }
 }
 
-/// What is handed over of a start line, if its attributes are.
+/// The attributes of a start line, as they are handed over.
+#[inline(always)]
 pub fn handed_over<'l: 't, 't>(
     line: StartLine<'l>,
     outlines: &'t AttributeBuffer,
-) -> Option<AuxStartTagInfo<'t>>
+) -> AuxStartTagInfo<'t>
     requires { AreOutlinesOf line.attributes outlines.now.items }
-    ensures handed { IsHandedOver result (start_tag_of line.entry) }
-    ensures inside { IfSome result RangesAreInside }
+    ensures handed { line.entry.finish ≡ true
+        → handed line.entry.name.now line.entry.ns result ≡ start_tag_of line.entry }
+    ensures inside { RangesAreInside result }
 {
-    if !line.finish {
-        return None;
-    }
-    let text = line.attributes.unwrap_or(b"");
-    Some(AuxStartTagInfo {
-        input: Bytes::new(text),
+    AuxStartTagInfo {
+        input: Bytes::new(line.attributes.unwrap_or(b"")),
         attr_buffer: outlines,
         self_closing: line.self_closing,
-    })
+    }
 }

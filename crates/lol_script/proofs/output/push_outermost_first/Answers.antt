@@ -6,7 +6,7 @@ use Rattle.std.proofs.lemmas.Iterator.Consumers.{YieldsList-end}
 use Rattle.std.proofs.lemmas.List.{append_assoc, reverse-append}
 use Rattle.std.proofs.lemmas.List.Folds.{flat_map-map}
 use Rattle.lol_script.specs.Output.{comma_list}
-use Rattle.lol_script.proofs.ListedFields.{listed_is}
+use Rattle.lol_script.proofs.Commas.{listed_is}
 use Rattle.lol_script.proofs.output.push_outermost_first.Goals as goal
 
 pub returns : goal.returns

@@ -1,18 +1,25 @@
-use Rattle.std.proofs.Common.{◌≡◌, ap, subst}
+use Rattle.std.proofs.Common.{rules, ◌≡◌, ◌++◌, ◌∷◌, [], List, ℕ, Option, Some, None, map, refl, sym, ap, ◌∙◌, subst}
+use Rattle.std.proofs.lemmas.List.{append-nil}
 use Rattle.std.proofs.lemmas.Result.{on_ok_weaker}
-use Rattle.lol_instructions.specs.Tries.{attributes_counted, names_counted}
-use Rattle.lol_vm.specs.EventRuns.{machine_of}
-use Rattle.lol_vm.specs.Vms.{tries_in}
-use Rattle.lol_script.specs.FieldLists.{tries_shown}
-use Rattle.lol_script.specs.Output.{tries_field}
-use Rattle.lol_script.specs.declared.script_run.ScriptRun.{ScriptRun}
-use Rattle.lol_script.proofs.WithReasons.{pushed_from}
+use Rattle.lol_matcher.specs.Explaining.{reasons_told}
+use Rattle.lol_matcher.specs.Plain.{matches_for}
+use Rattle.lol_memory.specs.declared.match_info.MatchInfo.{MatchInfo}
+use Rattle.lol_vm.specs.Views.{match_of}
+use Rattle.lol_script.specs.AnswerTexts.{started_text}
+use Rattle.lol_script.specs.Explaining.{IsReasoned, lines_by}
+use Rattle.lol_script.specs.Output.{lines_of}
+use Rattle.lol_script.specs.Scripts.{texts_in}
+use Rattle.lol_script.specs.declared.explained.Explained.{Explained}
+use Rattle.lol_script.proofs.StartTags.{line_is}
 use Rattle.lol_script.proofs.script_run.ScriptRun.push_answer.Goals as goal
 
-pub returns-clause-text : goal.returns-clause-text
-returns-clause-text c = on_ok_weaker c.push_reasons.result
+pub returns-in-None-clause-text : goal.returns-in-None-clause-text
+returns-in-None-clause-text c = on_ok_weaker c.push_started.result
     (λ text.
-    let shown = subst (λ (r : ScriptRun). tries_shown c.shown_tries-tries.result ≡ tries_field r.shows_tries (names_counted (tries_in (machine_of r.run))) (attributes_counted (tries_in (machine_of r.run)))) c.find_reasons.ensures.kept c.shown_tries-tries.ensures in
-    pushed_from c.args.asked c.args.self.now c.find_reasons.new.self c.push_reasons.new.self c.shown_tries-tries.result shown
-    c.find_reasons.ensures.kept c.in_ok-find_reasons.ensures.told c.in_ok-push_started.ensures.0 c.push_started.new.text.items c.in_ok-push_started.ensures.1 (ap (λ (r : ScriptRun). r.fields) c.push_reasons.ensures.kept) text)
-    c.push_reasons.ensures.text
+    let old = c.args.self.now in
+    let m = old.matcher in
+    let line = line_is m old.shows_tries c.args.asked c.shown_tries-tries.result c.shown_tries-tries.ensures (map match_of m.matched) in
+    let written = text ∙ ((λ i. old.text.items ++ (started_text (map (λ (info : MatchInfo). match_of info) (c.matches.ensures.matched i)) c.args.asked c.shown_tries-tries.result ++ 10 ∷ []))
+    ∙ ((λ i. old.text.items ++ (line i ++ 10 ∷ [])) ∙ sym (ap (λ (l : List ℕ). old.text.items ++ l) (append-nil _)))) in
+    subst (λ (o : Option Explained). IsReasoned m old.shows_tries c.args.asked old.text.items c.push_started.new.text.items o o) (sym c.in-None.is) (refl, written))
+    c.push_started.ensures

@@ -4,7 +4,7 @@ use Rattle.lol_base.specs.declared.start_tag.AttributeOutline.{AttributeOutline}
 use Rattle.lol_program.specs.Paths.{Selectors}
 use Rattle.lol_vm.specs.Events.{Event}
 use Rattle.lol_vm.specs.Events as events
-use Rattle.lol_script.specs.Answering.{Answers, IsWritten, has_ended}
+use Rattle.lol_script.specs.Answering.{Answers, IsWritten}
 use Rattle.lol_script.specs.Lines.{start_tag_of}
 use Rattle.lol_script.specs.Scripts.{Script, with_event}
 use Rattle.lol_script.specs.declared.script_run.ScriptRun.{ScriptRun}
@@ -28,7 +28,7 @@ module _ (code : ScriptRun) (outlines : Vec AttributeOutline) (s : Script) where
     selectors = answers.selectors;
     same = answers.same;
     shows_tries = answers.shows_tries;
-    written = cut_is_written answers.selectors (has_ended code.answering) answers.written;
+    written = cut_is_written answers.selectors code.matcher.failed answers.written;
   }
 
 pub returns-in-Ok-clause-taken : goal.returns-in-Ok-clause-taken
