@@ -1,7 +1,7 @@
 //! A link checker, tag by tag: a machine is told of each tag, and released at the end, whatever was answered.
 
 ghost use Rattle.std.specs.Prelude.{◌≡◌};
-ghost use Rattle.lol_vm.specs.Vms.{ChargesSlots};
+ghost use Rattle.lol_machine.specs.Vms.{ChargesSlots};
 
 use lol_vm::{
     Ast, Attributes, ElementValue, LocalName, MatchInfo, Namespace, Selector, SelectorError,

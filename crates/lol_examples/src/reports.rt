@@ -2,7 +2,8 @@
 
 ghost use Rattle.std.specs.Prelude.{false, OnOk, IfErr, map, take, All};
 ghost use Rattle.lol_vm.specs.Handlers.{IsCalledWithAnswers};
-ghost use Rattle.lol_vm.specs.Views.{HasRangesInside, event_of, selectors};
+ghost use Rattle.lol_machine.specs.Views.{selectors};
+ghost use Rattle.lol_vm.specs.TagEvents.{HasRangesInside, event_of};
 
 use lol_vm::{Ast, RunStop, SharedMemoryLimiter, TagEvent, TagReport, match_each_event};
 use std::alloc::Global;

@@ -12,15 +12,15 @@ use Rattle.lol_instructions.specs.Compounds.{by_names, all_hold, is_open, Decide
 use Rattle.lol_instructions.specs.Tests.{Element, is_html}
 use Rattle.lol_program.specs.Paths.{Path, First, Then, Selectors, last_compound}
 use Rattle.lol_program.specs.Programs.{AreClosed}
-use Rattle.lol_vm.specs.AnswerLaws.{started_if}
-use Rattle.lol_vm.specs.Answers.{Answer, Started, Dropped, Ended, matching_ids, report, name_tries, attribute_tries, needs_attributes, asks, is_dropped, is_tried, is_tried_open, answer, after}
-use Rattle.lol_vm.specs.KeyTries.{asks_at_once, is_left, is_left_open, node_keys}
-use Rattle.lol_vm.specs.TriedLaws.{at_once_asks, tried_needs}
+use Rattle.lol_machine.specs.AnswerLaws.{started_if}
+use Rattle.lol_machine.specs.Answers.{Answer, Started, Dropped, Ended, matching_ids, report, name_tries, attribute_tries, needs_attributes, asks, is_dropped, is_tried, is_tried_open, answer, after}
+use Rattle.lol_machine.specs.KeyTries.{asks_at_once, is_left, is_left_open, node_keys}
+use Rattle.lol_machine.specs.TriedLaws.{at_once_asks, tried_needs}
 use Rattle.lol_instructions.specs.Keys.{is_ruled_out_by_attributes, is_ruled_out_by_name}
 use Rattle.lol_base.specs.Ascending.{ascending_once}
-use Rattle.lol_vm.specs.Documents.{Document, element_of, parent_of, children_of, typed_children_of, index_of, inner_part, outer_part}
-use Rattle.lol_vm.specs.Events.{Event, Start, End, has_content, has_content_in}
-use Rattle.lol_vm.specs.Matching.{matches, left_matches, parent_passes, some_ancestor_passes}
+use Rattle.lol_machine.specs.Documents.{Document, element_of, parent_of, children_of, typed_children_of, index_of, inner_part, outer_part}
+use Rattle.lol_machine.specs.Events.{Event, Start, End, has_content, has_content_in}
+use Rattle.lol_machine.specs.Matching.{matches, left_matches, parent_passes, some_ancestor_passes}
 use Rattle.lol_base.specs.CountLaws.{count_same}
 use Rattle.lol_css.specs.declared.selector.Combinator.TheVariants.{Child, Descendant}
 use Rattle.lol_instructions.specs.declared.name_value.NameValue.{NameValue}

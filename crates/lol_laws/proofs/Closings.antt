@@ -6,8 +6,8 @@ use Rattle.std.proofs.lemmas.Bool.Decides.{nat_tests}
 use Rattle.lol_base.specs.Names.{same_name}
 use Rattle.lol_instructions.specs.Tests.{Element}
 use Rattle.lol_base.specs.MemberLaws.{Among, contains_from_among}
-use Rattle.lol_vm.specs.Documents.{index_of, inner_part, outer_part}
-use Rattle.lol_vm.specs.Answers.{Ended}
+use Rattle.lol_machine.specs.Documents.{index_of, inner_part, outer_part}
+use Rattle.lol_machine.specs.Answers.{Ended}
 use Rattle.lol_laws.specs.RunLaws.{EndsCloseInside}
 
 module _ {A : Type 0} (p : A → Bool) where

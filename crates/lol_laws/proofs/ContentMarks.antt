@@ -4,13 +4,13 @@ use Rattle.lol_base.specs.Names.{is_void, is_esi}
 use Rattle.lol_base.specs.StartTags.{StartTag}
 use Rattle.lol_base.specs.declared.namespace.Namespace.{Namespace}
 use Rattle.lol_base.specs.declared.namespace.Namespace.TheVariants.{Html, Svg, MathML}
-use Rattle.lol_vm.specs.Events.{has_content, has_content_in}
-use Rattle.lol_vm.specs.Documents.{element_of}
-use Rattle.lol_vm.specs.Answers.{Match, Started, is_dropped, report, matching_ids}
+use Rattle.lol_machine.specs.Events.{has_content, has_content_in}
+use Rattle.lol_machine.specs.Documents.{element_of}
+use Rattle.lol_machine.specs.Answers.{Match, Started, is_dropped, report, matching_ids}
 use Rattle.lol_base.specs.BoolLaws.{and_parts, and_of, or_parts, or_of}
 use Rattle.lol_base.specs.MemberLaws.{among_from_contains, among_map}
 use Rattle.lol_laws.specs.RunLaws.{MarksTellContent}
-use Rattle.lol_vm.specs.AnswerLaws.{started_if}
+use Rattle.lol_machine.specs.AnswerLaws.{started_if}
 
 abbrev NoContentIn : Namespace → Bool → StartTag → Type 0
 NoContentIn namespace esi tag =

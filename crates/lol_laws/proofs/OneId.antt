@@ -6,13 +6,13 @@ use Rattle.lol_base.specs.StartTags.{StartTag}
 use Rattle.lol_instructions.specs.Tests.{Element}
 use Rattle.lol_program.specs.Paths.{Path, Selectors}
 use Rattle.lol_base.specs.MemberLaws.{Among, among_from_contains, contains_from_among, among_map, map_among, any_among, among_any}
-use Rattle.lol_vm.specs.Events.{Event, Start, End, has_content}
-use Rattle.lol_vm.specs.Documents.{Document, empty, element_of, after_start}
-use Rattle.lol_vm.specs.Answers.{Match, Dropped, is_dropped, report, matching_ids, after, answers_from}
-use Rattle.lol_vm.specs.ReportLaws.{among_matching_ids, matching_ids_among}
+use Rattle.lol_machine.specs.Events.{Event, Start, End, has_content}
+use Rattle.lol_machine.specs.Documents.{Document, empty, element_of, after_start}
+use Rattle.lol_machine.specs.Answers.{Match, Dropped, is_dropped, report, matching_ids, after, answers_from}
+use Rattle.lol_machine.specs.ReportLaws.{among_matching_ids, matching_ids_among}
 use Rattle.lol_base.specs.BoolLaws.{same_bool}
 use Rattle.lol_laws.specs.RunLaws.{reports_id, SamePathsUnder, OneIdsPathsDecide}
-use Rattle.lol_vm.specs.AnswerLaws.{started_if}
+use Rattle.lol_machine.specs.AnswerLaws.{started_if}
 
 module _ (s t : Selectors) (id : ℕ) (same : SamePathsUnder id s t) (esi : Bool) where
   abbrev is_id : Match → Bool

@@ -3,11 +3,11 @@ use Rattle.std.proofs.Common.{◌≡◌, ℕ, Bool, true, false, List, [], ◌�
 use Rattle.lol_base.specs.StartTags.{StartTag}
 use Rattle.lol_program.specs.Paths.{Selectors}
 use Rattle.lol_program.specs.Programs.{AreClosed}
-use Rattle.lol_vm.specs.Answers.{after, answer, answers_from, asks, document, document_from}
-use Rattle.lol_vm.specs.Documents.{Document, element_of, empty}
-use Rattle.lol_vm.specs.Events.{Event, Start, End}
-use Rattle.lol_vm.specs.Refusals.{Allowance, Cause, Counter, Limit, exceeds, greatest_count, longest_from, or_later, refusal, refused_from}
-use Rattle.lol_vm.specs.Views.{selectors}
+use Rattle.lol_machine.specs.Answers.{after, answer, answers_from, asks, document, document_from}
+use Rattle.lol_machine.specs.Documents.{Document, element_of, empty}
+use Rattle.lol_machine.specs.Events.{Event, Start, End}
+use Rattle.lol_machine.specs.Refusals.{Allowance, Cause, Counter, Limit, exceeds, greatest_count, longest_from, or_later, refusal, refused_from}
+use Rattle.lol_machine.specs.Views.{selectors}
 use Rattle.lol_program.specs.ClosedLaws.{trees_are_closed}
 use Rattle.lol_laws.specs.AskedRuns.{AreToldFrom, AskedRunsAnswerAlike, IsToldOf, ToldGoesOn, bare_tag}
 use Rattle.lol_laws.proofs.Alike.{AlikeDocuments, alike_after, documents_self, documents_trans, dropped_after, dropped_answered, same_answer, same_depth, same_position, unasked_after, unasked_answered}

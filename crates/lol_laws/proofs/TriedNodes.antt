@@ -12,13 +12,13 @@ use Rattle.lol_instructions.specs.declared.name_value.NameValue.{NameValue}
 use Rattle.lol_instructions.specs.declared.name_value.NameValue.TheVariants.{True, False, Open}
 use Rattle.lol_program.specs.Paths.{Path, Selectors, last_compound}
 use Rattle.lol_program.specs.ValueLaws.{values_decide}
-use Rattle.lol_vm.specs.Matching.{matches, left_matches}
-use Rattle.lol_vm.specs.Events.{Event, Start, End}
-use Rattle.lol_vm.specs.Documents.{Document, element_of, empty}
-use Rattle.lol_vm.specs.KeyTries.{AreRight, node_keys, is_left_by_name, is_left_open, asks_at_once, is_left, is_tried_by_keys, name_tries_by_keys, tries_attributes_by_keys, attribute_tries_by_keys}
-use Rattle.lol_vm.specs.Answers.{Started, Dropped, report, is_dropped, answer, after, answers_from, document_from, needs_attributes, asks}
-use Rattle.lol_vm.specs.Refusals.{Allowance, refusal, or_later, refused_from}
-use Rattle.lol_vm.specs.Laws.{in_mode}
+use Rattle.lol_machine.specs.Matching.{matches, left_matches}
+use Rattle.lol_machine.specs.Events.{Event, Start, End}
+use Rattle.lol_machine.specs.Documents.{Document, element_of, empty}
+use Rattle.lol_machine.specs.KeyTries.{AreRight, node_keys, is_left_by_name, is_left_open, asks_at_once, is_left, is_tried_by_keys, name_tries_by_keys, tries_attributes_by_keys, attribute_tries_by_keys}
+use Rattle.lol_machine.specs.Answers.{Started, Dropped, report, is_dropped, answer, after, answers_from, document_from, needs_attributes, asks}
+use Rattle.lol_machine.specs.Refusals.{Allowance, refusal, or_later, refused_from}
+use Rattle.lol_machine.specs.Laws.{in_mode}
 use Rattle.lol_instructions.specs.Keys.{Keys, is_ruled_out_by_name, is_ruled_out_by_attributes, no_keys}
 use Rattle.lol_laws.specs.Calls.{all_name_tries, all_attribute_tries, Without, Completing, With, one_if, name_counted, attribute_counted, calls_by_names, calls_in, needs_them, answer_by_keys, answers_by_keys_from}
 use Rattle.lol_laws.specs.KeyLaws.{MatchingNodesAreTried, TriedPairsGiveIds, NamesKeepAsks, AsksByTries, FirstStepSeesNoRest, TriesAreAtMost, TriesAndSparedAreAll, CallsAreCounted, CallsAskWhereAsked, OrderChangesNoTries, NoKeysAreExact, Spares, AllSpare, AnswersAreSparing, ModesCountTries, ModesAnswerByKeys, ModesAnswerAlike}

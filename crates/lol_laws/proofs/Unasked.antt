@@ -3,10 +3,10 @@ use Rattle.std.proofs.Common.{◌≡◌, Bool, false, List, [], ◌∷◌, ◌++
 use Rattle.lol_base.specs.StartTags.{Attribute, StartTag}
 use Rattle.lol_program.specs.Paths.{Path, Selectors}
 use Rattle.lol_program.specs.Programs.{AreClosed}
-use Rattle.lol_vm.specs.Events.{Event, Start, End}
-use Rattle.lol_vm.specs.Documents.{Document, empty, element_of}
-use Rattle.lol_vm.specs.Matching.{matches}
-use Rattle.lol_vm.specs.Answers.{asks, answer, answers_from, after, document_from}
+use Rattle.lol_machine.specs.Events.{Event, Start, End}
+use Rattle.lol_machine.specs.Documents.{Document, empty, element_of}
+use Rattle.lol_machine.specs.Matching.{matches}
+use Rattle.lol_machine.specs.Answers.{asks, answer, answers_from, after, document_from}
 use Rattle.lol_laws.specs.RunLaws.{with_attributes, matches_at, matches_from, UnaskedAttributesChangeNothing}
 use Rattle.lol_laws.proofs.Alike.{matched_alike, AlikeDocuments, IsNode, alike_after, same_answer, same_element, same_matches, unasked_after, unasked_answered}
 

@@ -4,11 +4,11 @@ use Rattle.lol_base.specs.StartTags.{StartTag}
 use Rattle.lol_base.specs.declared.namespace.Namespace.{Namespace}
 use Rattle.lol_program.specs.Paths.{Selectors}
 use Rattle.lol_program.specs.declared.ast.Ast.{Ast}
-use Rattle.lol_vm.specs.Answers.{after, answer, answers, asks, document}
-use Rattle.lol_vm.specs.Documents.{Document, element_of, empty}
-use Rattle.lol_vm.specs.Events.{Event, Start, End}
-use Rattle.lol_vm.specs.Refusals.{Allowance, longest, refusal, refused}
-use Rattle.lol_vm.specs.Views.{selectors}
+use Rattle.lol_machine.specs.Answers.{after, answer, answers, asks, document}
+use Rattle.lol_machine.specs.Documents.{Document, element_of, empty}
+use Rattle.lol_machine.specs.Events.{Event, Start, End}
+use Rattle.lol_machine.specs.Refusals.{Allowance, longest, refusal, refused}
+use Rattle.lol_machine.specs.Views.{selectors}
 
 -- a start tag without attributes, which isn't finished
 abbrev pub bare_tag : List ℕ → Namespace → StartTag

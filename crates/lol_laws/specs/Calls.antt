@@ -4,11 +4,11 @@ use Rattle.lol_instructions.specs.Tests.{Element}
 use Rattle.lol_instructions.specs.Compounds.{by_names, is_open}
 use Rattle.lol_instructions.specs.Keys.{Keys}
 use Rattle.lol_program.specs.Paths.{Path, Selectors, last_compound}
-use Rattle.lol_vm.specs.Matching.{left_matches}
-use Rattle.lol_vm.specs.Events.{Event, Start, End}
-use Rattle.lol_vm.specs.Documents.{Document, element_of, closed}
-use Rattle.lol_vm.specs.Answers.{Answer, Started, Dropped, Ended, needs_attributes, asks, is_dropped, report, after}
-use Rattle.lol_vm.specs.KeyTries.{asks_at_once, is_tried_by_keys, name_tries_by_keys, attribute_tries_by_keys}
+use Rattle.lol_machine.specs.Matching.{left_matches}
+use Rattle.lol_machine.specs.Events.{Event, Start, End}
+use Rattle.lol_machine.specs.Documents.{Document, element_of, closed}
+use Rattle.lol_machine.specs.Answers.{Answer, Started, Dropped, Ended, needs_attributes, asks, is_dropped, report, after}
+use Rattle.lol_machine.specs.KeyTries.{asks_at_once, is_tried_by_keys, name_tries_by_keys, attribute_tries_by_keys}
 
 -- 1. The counts where no node is spared
 

@@ -6,13 +6,13 @@ use Rattle.lol_instructions.specs.Tests.{Element, is_html}
 use Rattle.lol_instructions.specs.Compounds.{with_rest}
 use Rattle.lol_program.specs.Paths.{Path, Selectors}
 use Rattle.lol_program.specs.Sets.{SameMembers}
-use Rattle.lol_vm.specs.Matching.{matches, left_matches}
-use Rattle.lol_vm.specs.Events.{Event}
-use Rattle.lol_vm.specs.Documents.{Document}
-use Rattle.lol_vm.specs.KeyTries.{AreRight, node_keys, is_left_by_name, asks_at_once, is_tried_by_keys, name_tries_by_keys, tries_attributes_by_keys, attribute_tries_by_keys}
-use Rattle.lol_vm.specs.Answers.{Answer, Started, Dropped, Ended, answers, answers_from, document, matching_ids, name_tries, attribute_tries, needs_attributes, asks}
-use Rattle.lol_vm.specs.Refusals.{Allowance, refused}
-use Rattle.lol_vm.specs.Laws.{in_mode}
+use Rattle.lol_machine.specs.Matching.{matches, left_matches}
+use Rattle.lol_machine.specs.Events.{Event}
+use Rattle.lol_machine.specs.Documents.{Document}
+use Rattle.lol_machine.specs.KeyTries.{AreRight, node_keys, is_left_by_name, asks_at_once, is_tried_by_keys, name_tries_by_keys, tries_attributes_by_keys, attribute_tries_by_keys}
+use Rattle.lol_machine.specs.Answers.{Answer, Started, Dropped, Ended, answers, answers_from, document, matching_ids, name_tries, attribute_tries, needs_attributes, asks}
+use Rattle.lol_machine.specs.Refusals.{Allowance, refused}
+use Rattle.lol_machine.specs.Laws.{in_mode}
 use Rattle.lol_instructions.specs.Keys.{Keys, no_keys}
 use Rattle.lol_laws.specs.Calls.{all_name_tries, all_attribute_tries, name_counted, attribute_counted, needs_them, calls, answers_by_keys_from}
 

@@ -7,10 +7,10 @@ use Rattle.lol_base.specs.declared.namespace.Namespace.TheVariants.{Html}
 use Rattle.lol_instructions.specs.Tests.{Element}
 use Rattle.lol_program.specs.Paths.{Path, Selectors}
 use Rattle.lol_program.specs.Programs.{AreClosed}
-use Rattle.lol_vm.specs.Events.{Event, Start, End}
-use Rattle.lol_vm.specs.Documents.{Document, empty, element_of}
-use Rattle.lol_vm.specs.Matching.{matches}
-use Rattle.lol_vm.specs.Answers.{Match, Answer, Started, Dropped, Ended, asks, answer, answers, after, document}
+use Rattle.lol_machine.specs.Events.{Event, Start, End}
+use Rattle.lol_machine.specs.Documents.{Document, empty, element_of}
+use Rattle.lol_machine.specs.Matching.{matches}
+use Rattle.lol_machine.specs.Answers.{Match, Answer, Started, Dropped, Ended, asks, answer, answers, after, document}
 
 -- 1. Content marks
 

@@ -7,9 +7,9 @@ use Rattle.lol_base.specs.declared.comparison.ParsedCaseSensitivity.TheVariants.
 use Rattle.lol_instructions.specs.Tests.{Element, AnyName, HasName, IsNthChild, HasId, HasClass, HasAttribute, Compares}
 use Rattle.lol_instructions.specs.Compounds.{Test, OfName, OfAttributes, NoneOf, SomeOf, Compound, all_of, any_of, by_names, is_open}
 use Rattle.lol_program.specs.Paths.{Path, Selectors, First, last_compound}
-use Rattle.lol_vm.specs.Answers.{name_tries, attribute_tries, asks}
+use Rattle.lol_machine.specs.Answers.{name_tries, attribute_tries, asks}
 use Rattle.lol_instructions.specs.Keys.{Keys, AttributeKey, ById, ByClass, ByPart, ByAttribute, is_ruled_out_by_attributes, one_key}
-use Rattle.lol_vm.specs.KeyTries.{asks_at_once, name_tries_by_keys, attribute_tries_by_keys}
+use Rattle.lol_machine.specs.KeyTries.{asks_at_once, name_tries_by_keys, attribute_tries_by_keys}
 use Rattle.lol_laws.specs.Calls.{Call, Without, Completing, With, name_counted}
 
 abbrev name : List ℕ → Test

@@ -2,7 +2,7 @@
 use Rattle.std.proofs.Common.{◌≡◌, ◌*◌, ◌^◌, ◌<◌, ◌≤◌, Bool, [], sym, ap, ◌∙◌, arith}
 use Rattle.lol_memory.specs.Limiter.{Limiter}
 use Rattle.lol_program.specs.Paths.{Selectors}
-use Rattle.lol_vm.specs.Vms.{Vm, Stands, slots_charged, slot_bytes}
+use Rattle.lol_machine.specs.Vms.{Vm, Stands, slots_charged, slot_bytes}
 use Rattle.lol_matcher.specs.Keeping.{IsCharged, Runs}
 
 pub charged_at_first : {E : Type 0} (vm : Vm E) (now : Limiter) → slots_charged vm ≡ 0 → now.usage ≡ 0 → IsCharged vm now

@@ -2,7 +2,7 @@
 use Rattle.std.proofs.Common.{◌≡◌, ℕ, ◌+◌, ◌-◌, ◌*◌, ◌≤◌, ◌∙◌, refl, sym, ap, arith}
 use Rattle.std.proofs.Math.Nat.{add-mul}
 use Rattle.lol_memory.specs.Limiter.{Limiter, charged}
-use Rattle.lol_vm.specs.Vms.{Vm, ChargesSlots, slots_charged, slot_bytes}
+use Rattle.lol_machine.specs.Vms.{Vm, ChargesSlots, slots_charged, slot_bytes}
 use Rattle.lol_matcher.specs.Keeping.{IsCharged, KeepsRunning}
 
 whole : (old new bytes : ℕ) → old ≤ new → old * bytes + (new - old) * bytes ≡ new * bytes

@@ -1,6 +1,6 @@
 -- A list with room, once a handler was called at one item more.
 use Rattle.std.proofs.Common.{◌≡◌, ℕ, ◌≤◌, List, [], ◌∷◌, ◌++◌, length, ap, ◌∙◌, arith, length-append, Vec, vec_capacity}
-use Rattle.lol_vm.specs.ReportRoom.{TakesInRoom}
+use Rattle.lol_machine.specs.ReportRoom.{TakesInRoom}
 
 -- it has these items, in the room that it had, if they fit
 abbrev pub HasTaken : {T A : Type 0} → ℕ → List T → Vec T A → Type 0

@@ -4,11 +4,11 @@ use Rattle.std.specs.Prelude.{◌&&◌}
 use Rattle.lol_base.specs.StartTags.{StartTag}
 use Rattle.lol_base.specs.declared.namespace.Namespace.{Namespace}
 use Rattle.lol_memory.specs.Limiter.{Limiter}
-use Rattle.lol_vm.specs.Answers.{document, is_dropped}
-use Rattle.lol_vm.specs.Documents.{element_of}
-use Rattle.lol_vm.specs.Views.{selectors}
-use Rattle.lol_vm.specs.Vms.{Vm, IsPending}
-use Rattle.lol_vm.specs.declared.error.AuxStartTagInfoRequest.{AuxStartTagInfoRequest}
+use Rattle.lol_machine.specs.Answers.{document, is_dropped}
+use Rattle.lol_machine.specs.Documents.{element_of}
+use Rattle.lol_machine.specs.Views.{selectors}
+use Rattle.lol_machine.specs.Vms.{Vm, IsPending}
+use Rattle.lol_machine.specs.declared.error.AuxStartTagInfoRequest.{AuxStartTagInfoRequest}
 use Rattle.lol_matcher.specs.Keeping.{Waits, Runs, RunsPast, ids_of}
 use Rattle.lol_matcher.specs.Told.{Told, heard, with_dropped}
 use Rattle.lol_matcher.specs.declared.open_element.OpenElement.{OpenElement}

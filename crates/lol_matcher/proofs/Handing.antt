@@ -7,13 +7,13 @@ use Rattle.lol_instructions.specs.declared.tries.Tries.{Tries}
 use Rattle.lol_memory.specs.Limiter.{Limiter}
 use Rattle.lol_memory.specs.declared.match_info.MatchInfo.{MatchInfo}
 use Rattle.lol_program.specs.Paths.{Selectors}
-use Rattle.lol_vm.specs.Answers.{Match, Started, answer, document}
-use Rattle.lol_vm.specs.Documents.{element_of}
-use Rattle.lol_vm.specs.Events.{Event, Start}
-use Rattle.lol_vm.specs.Refusals.{Allowance}
-use Rattle.lol_vm.specs.ReportRoom.{HoldsEachReport}
-use Rattle.lol_vm.specs.Views.{match_of}
-use Rattle.lol_vm.specs.Vms.{Vm, info_of, is_asked_for, tries_in}
+use Rattle.lol_machine.specs.Answers.{Match, Started, answer, document}
+use Rattle.lol_machine.specs.Documents.{element_of}
+use Rattle.lol_machine.specs.Events.{Event, Start}
+use Rattle.lol_machine.specs.Refusals.{Allowance}
+use Rattle.lol_machine.specs.ReportRoom.{HoldsEachReport}
+use Rattle.lol_machine.specs.Views.{match_of}
+use Rattle.lol_machine.specs.Vms.{Vm, info_of, is_asked_for, tries_in}
 use Rattle.lol_matcher.specs.Answering.{IsReported, reported_after, with_told}
 use Rattle.lol_matcher.specs.Keeping.{IsToldAs}
 use Rattle.lol_matcher.specs.LastLaws.{WasAnswered, answered}

@@ -10,13 +10,13 @@ use Rattle.lol_instructions.specs.Tries.{names_counted, attributes_counted}
 use Rattle.lol_instructions.specs.declared.tries.Tries.{Tries}
 use Rattle.lol_memory.specs.declared.match_info.MatchInfo.{MatchInfo}
 use Rattle.lol_program.specs.Paths.{Selectors}
-use Rattle.lol_vm.specs.Answers.{after, document, document_from, is_dropped}
-use Rattle.lol_vm.specs.AnswerLaws.{document_push}
-use Rattle.lol_vm.specs.Documents.{Document, empty, element_of, outer_part, inner_part, index_of}
-use Rattle.lol_vm.specs.Events.{Event, Start, End, has_content}
-use Rattle.lol_vm.specs.Views.{match_of}
-use Rattle.lol_vm.specs.Vms.{Vm, is_asked_for, open_after}
-use Rattle.lol_vm.specs.declared.error.AuxStartTagInfoRequest.{AuxStartTagInfoRequest}
+use Rattle.lol_machine.specs.Answers.{after, document, document_from, is_dropped}
+use Rattle.lol_machine.specs.AnswerLaws.{document_push, events-document}
+use Rattle.lol_machine.specs.Documents.{Document, empty, element_of, outer_part, inner_part, index_of}
+use Rattle.lol_machine.specs.Events.{Event, Start, End, has_content}
+use Rattle.lol_machine.specs.Views.{match_of}
+use Rattle.lol_machine.specs.Vms.{Vm, is_asked_for, open_after}
+use Rattle.lol_machine.specs.declared.error.AuxStartTagInfoRequest.{AuxStartTagInfoRequest}
 use Rattle.lol_matcher.specs.Answering.{IsReported, KeepsOne}
 use Rattle.lol_matcher.specs.Keeping.{Waits, count_with}
 use Rattle.lol_matcher.specs.LastLaws.{answered, opens_if, opens_none}
@@ -39,11 +39,6 @@ count_dropped s esi events (Some asked) vm (Some request) waits count is = count
 -- 2. Open elements
 
 module _ (s : Selectors) (esi : Bool) where
-  events_counted : (d : Document) (events : List Event) → (document_from s esi d events).events ≡ d.events + length events
-  events_counted d [] = omega arith
-  events_counted d (Start tag ∷ events) = let rest = events_counted (after s esi d (Start tag)) events in omega (arith, rest)
-  events_counted d (End name ∷ events) = let rest = events_counted (after s esi d (End name)) events in omega (arith, rest)
-
   module _ (before : List Event) (tag : StartTag) where
     abbrev d : Document
     d = document s esi before
@@ -53,7 +48,7 @@ module _ (s : Selectors) (esi : Bool) where
     open_after_start opens is = ap (λ (d : Document). d.open_elements) (document_push s esi empty before (Start tag)) ∙ ap (λ (b : Bool). if b then element_of d tag ∷ d.open_elements else d.open_elements) is
 
     pub number_is : (element_of d tag).number ≡ length before
-    number_is = omega (arith, events_counted empty before)
+    number_is = omega (arith, events-document s esi empty before)
 
     -- one that is dropped opens nothing
     pub open_after_dropped : is_asked_for s esi before tag ≡ true → tag.finish ≡ false → (document s esi (before ++ Start tag ∷ [])).open_elements ≡ d.open_elements

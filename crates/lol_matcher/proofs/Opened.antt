@@ -2,8 +2,8 @@
 use Rattle.std.proofs.Common.{◌≡◌, ℕ, suc, ◌-◌, ◌<◌, Bool, true, false, List, [], ◌∷◌, ◌++◌, length, map, Option, Some, None, refl, sym, ap, subst, ◌∙◌, arith, length-append}
 use Rattle.std.specs.Prelude.{slice_get, slice_set, IsTrue, ◌↔◌, if◌then◌else◌}
 use Rattle.lol_memory.specs.declared.match_info.MatchInfo.{MatchInfo}
-use Rattle.lol_vm.specs.Answers.{Match}
-use Rattle.lol_vm.specs.Vms.{AreOpened, info_of}
+use Rattle.lol_machine.specs.Answers.{Match}
+use Rattle.lol_machine.specs.Vms.{AreOpened, info_of}
 use Rattle.lol_matcher.specs.Answering.{KeepsOne, change_last, last_value, with_last_number}
 use Rattle.lol_matcher.specs.Keeping.{ids_of}
 use Rattle.lol_matcher.specs.declared.open_element.OpenElement.{OpenElement}

@@ -7,12 +7,12 @@ use Rattle.lol_program.specs.Asts.{is_with_rows}
 use Rattle.lol_program.specs.PairNodeLaws.{nodes_of-AreNodes}
 use Rattle.lol_program.specs.Paths.{Path, Selectors, all_beginnings}
 use Rattle.lol_program.specs.Sets.{SameMembers}
-use Rattle.lol_vm.specs.Answers.{Answer, Dropped, Match, after, answer, asks, document, is_dropped, matching_ids, report}
-use Rattle.lol_vm.specs.Documents.{Document, element_of, empty}
-use Rattle.lol_vm.specs.Events.{Event, Start, End, has_content}
-use Rattle.lol_vm.specs.Refusals.{Allowance, longest, refusal}
-use Rattle.lol_vm.specs.Views.{selectors}
-use Rattle.lol_vm.specs.Vms.{is_asked_for}
+use Rattle.lol_machine.specs.Answers.{Answer, Dropped, Match, after, answer, asks, document, is_dropped, matching_ids, report}
+use Rattle.lol_machine.specs.Documents.{Document, element_of, empty}
+use Rattle.lol_machine.specs.Events.{Event, Start, End, has_content}
+use Rattle.lol_machine.specs.Refusals.{Allowance, longest, refusal}
+use Rattle.lol_machine.specs.Views.{selectors}
+use Rattle.lol_machine.specs.Vms.{is_asked_for}
 use Rattle.lol_matcher.specs.ExplainingLaws.{ids_are_those}
 use Rattle.lol_matcher.specs.Plain.{ItemsAnswerAsTexts, matches_for, plain_selectors}
 use Rattle.lol_matcher.specs.Refusing.{refusal_after}

@@ -14,12 +14,12 @@ use Rattle.lol_stack.specs.Stacks.{element_data_of}
 use Rattle.lol_stack.specs.declared.stack_item.StackItemOf.{StackItemOf}
 use Rattle.lol_reasons.specs.MachinesShow.{items_around}
 use Rattle.lol_matcher.specs.declared.open_element.OpenElement.{OpenElement}
-use Rattle.lol_vm.specs.Answers.{Ended, Match, answers_from, after, document, document_from, is_dropped, matching_ids, report}
-use Rattle.lol_vm.specs.Documents.{Document, empty, element_of}
-use Rattle.lol_vm.specs.Events.{Event, Start, End, has_content}
-use Rattle.lol_vm.specs.Laws.{ids_of}
-use Rattle.lol_vm.specs.Standing.{Descend, IsOrdered}
-use Rattle.lol_vm.specs.Views.{match_of, selectors}
+use Rattle.lol_machine.specs.Answers.{Ended, Match, answers_from, after, document, document_from, is_dropped, matching_ids, report}
+use Rattle.lol_machine.specs.Documents.{Document, empty, element_of}
+use Rattle.lol_machine.specs.Events.{Event, Start, End, has_content}
+use Rattle.lol_machine.specs.Laws.{ids_of}
+use Rattle.lol_machine.specs.Standing.{Descend, IsOrdered}
+use Rattle.lol_machine.specs.Views.{match_of, selectors}
 use Rattle.lol_laws.specs.AskedRuns.{bare_tag}
 use Rattle.lol_instructions.specs.declared.tries.Tries.{Tries}
 use Rattle.lol_reasons.specs.Explanations.{Added, Reason, Text, added_by, explanations, explanations_from, reasons, reasons_at}

@@ -10,19 +10,19 @@ use Rattle.lol_memory.specs.Limiter.{Limiter}
 use Rattle.lol_memory.specs.Slots.{slots}
 use Rattle.lol_memory.specs.declared.match_info.MatchInfo.{MatchInfo}
 use Rattle.lol_program.specs.Paths.{Selectors}
-use Rattle.lol_vm.specs.Answers.{is_dropped}
-use Rattle.lol_vm.specs.Documents.{Document, element_of, after_start}
-use Rattle.lol_vm.specs.Events.{Start, has_content}
-use Rattle.lol_vm.specs.Refusals.{Allowance, Cause, Limit, Counter, exceeds, greatest_count, refusal}
+use Rattle.lol_machine.specs.Answers.{is_dropped}
+use Rattle.lol_machine.specs.Documents.{Document, element_of, after_start}
+use Rattle.lol_machine.specs.Events.{Start, has_content}
+use Rattle.lol_machine.specs.Refusals.{Allowance, Cause, Limit, Counter, exceeds, greatest_count, refusal}
 use Rattle.lol_matcher.specs.Keeping.{IsCharged, IsRefusal, Keeps}
 use Rattle.lol_matcher.specs.Refusing.{IsRefusedFor, allowance}
 use Rattle.lol_matcher.specs.Told.{History, Matching, numbers_open}
 use Rattle.lol_matcher.specs.declared.error.MatcherError.{MatcherError}
 use Rattle.lol_matcher.specs.declared.error.MatcherError.TheVariants.{MemoryLimitExceeded, Memory, CounterFull, Failed, NotAsked, OutsideInput}
 use Rattle.lol_matcher.specs.declared.open_element.OpenElement.{OpenElement}
-use Rattle.lol_vm.specs.Vms.{Vm, HasOpen, data_in}
-use Rattle.lol_vm.specs.declared.error.AuxStartTagInfoRequest.{AuxStartTagInfoRequest}
-use Rattle.lol_vm.specs.ChargeLaws.{stays_within_alone, passes_maximum_alone}
+use Rattle.lol_machine.specs.Vms.{Vm, HasOpen, data_in}
+use Rattle.lol_machine.specs.declared.error.AuxStartTagInfoRequest.{AuxStartTagInfoRequest}
+use Rattle.lol_machine.specs.ChargeLaws.{stays_within_alone, passes_maximum_alone}
 
 -- what a start tag is refused for refuses all that come later
 pub is_refusal : (error : MatcherError) (free : Type 0) (refusal : Option Cause) → IsRefusedFor error free refusal → IsRefusal error

@@ -8,16 +8,16 @@ use Rattle.lol_memory.specs.Slots.{slots}
 use Rattle.lol_program.specs.Paths.{Selectors}
 use Rattle.lol_instructions.specs.Counters.{full_count}
 use Rattle.lol_stack.specs.Stacks.{last_count, list_in}
-use Rattle.lol_vm.specs.Answers.{after, document, is_dropped}
-use Rattle.lol_vm.specs.AnswerLaws.{document_push, longest_push}
-use Rattle.lol_vm.specs.Documents.{Document, empty, element_of, children_of, index_of, outer_part, after_start, after_end}
-use Rattle.lol_vm.specs.Events.{Event, Start, End, has_content}
-use Rattle.lol_vm.specs.Refusals.{greatest_count, longest}
-use Rattle.lol_vm.specs.Standing.{DocumentsAreOrdered}
-use Rattle.lol_vm.specs.VmLaws.{SlotsAreOfDepth, StandingCounts}
-use Rattle.lol_vm.specs.Vms.{Vm, Stands, stack_in, slots_charged, slot_bytes}
+use Rattle.lol_machine.specs.Answers.{after, document, is_dropped}
+use Rattle.lol_machine.specs.AnswerLaws.{document_push, longest_push}
+use Rattle.lol_machine.specs.Documents.{Document, empty, element_of, children_of, index_of, outer_part, after_start, after_end}
+use Rattle.lol_machine.specs.Events.{Event, Start, End, has_content}
+use Rattle.lol_machine.specs.Refusals.{greatest_count, longest}
+use Rattle.lol_machine.specs.Standing.{DocumentsAreOrdered}
+use Rattle.lol_machine.specs.VmLaws.{SlotsAreOfDepth, StandingCounts}
+use Rattle.lol_machine.specs.Vms.{Vm, Stands, stack_in, slots_charged, slot_bytes}
 use Rattle.lol_matcher.specs.Keeping.{Runs, IsCharged}
-use Rattle.lol_vm.specs.Openings.{children_after, position_before, room_for, no_room_for}
+use Rattle.lol_machine.specs.Openings.{children_after, position_before, room_for, no_room_for}
 use Rattle.lol_matcher.proofs.Refusals.{IsChargedFor}
 
 -- 1. Documents, one event on

@@ -8,17 +8,17 @@ use Rattle.lol_memory.specs.Limiter.{Limiter}
 use Rattle.lol_memory.specs.declared.match_info.MatchInfo.{MatchInfo}
 use Rattle.lol_program.specs.Paths.{Selectors}
 use Rattle.lol_stack.specs.Stacks.{list_in}
-use Rattle.lol_vm.specs.Answers.{Match, Started, document}
-use Rattle.lol_vm.specs.Due.{IsWithinLimit}
-use Rattle.lol_vm.specs.Documents.{children_of, element_of}
-use Rattle.lol_vm.specs.Events.{Event, Start, has_content}
-use Rattle.lol_vm.specs.Refusals.{greatest_count, longest}
-use Rattle.lol_vm.specs.Standing.{DocumentsAreOrdered}
-use Rattle.lol_vm.specs.Views.{match_of}
-use Rattle.lol_vm.specs.VmLaws.{PendingStands, SlotsAreOfDepth, StandingCounts}
-use Rattle.lol_vm.specs.Vms.{Vm, ChargesSlots, Stands, IsAnswered, IsPending, IsTriedAtMost, data_in, info_of, tries_in, stack_in, slot_bytes}
-use Rattle.lol_vm.specs.declared.error.AuxStartTagInfoRequest.{AuxStartTagInfoRequest}
-use Rattle.lol_vm.specs.Openings.{countable_after, has_content_if, opens_nothing, unfinished_is}
+use Rattle.lol_machine.specs.Answers.{Match, Started, document}
+use Rattle.lol_machine.specs.Due.{IsWithinLimit}
+use Rattle.lol_machine.specs.Documents.{children_of, element_of}
+use Rattle.lol_machine.specs.Events.{Event, Start, has_content}
+use Rattle.lol_machine.specs.Refusals.{greatest_count, longest}
+use Rattle.lol_machine.specs.Standing.{DocumentsAreOrdered}
+use Rattle.lol_machine.specs.Views.{match_of}
+use Rattle.lol_machine.specs.VmLaws.{PendingStands, SlotsAreOfDepth, StandingCounts}
+use Rattle.lol_machine.specs.Vms.{Vm, ChargesSlots, Stands, IsAnswered, IsPending, IsTriedAtMost, data_in, info_of, tries_in, stack_in, slot_bytes}
+use Rattle.lol_machine.specs.declared.error.AuxStartTagInfoRequest.{AuxStartTagInfoRequest}
+use Rattle.lol_machine.specs.Openings.{countable_after, has_content_if, opens_nothing, unfinished_is}
 use Rattle.lol_matcher.specs.Keeping.{IsToldAs, IsAskedFor, IsCharged, KeepsRunning, NumbersOpened, Runs, allowed, ids_of}
 use Rattle.lol_matcher.specs.declared.open_element.OpenElement.{OpenElement}
 use Rattle.lol_matcher.proofs.Charges.{charged_after}

@@ -23,11 +23,11 @@ use Rattle.lol_reasons.specs.Explanations.{Added, Reason, explanations_from, rea
 use Rattle.lol_reasons.specs.Numbered.{numbered_from}
 use Rattle.lol_reasons.specs.WitnessLaws.{InnermostIsKnown, InnermostWhereMatches}
 use Rattle.lol_reasons.specs.Witnesses.{given_at_nearest, given_at_parent, innermost_witness, known_witness, step_gives}
-use Rattle.lol_vm.specs.AnswerLaws.{document_push}
-use Rattle.lol_vm.specs.Answers.{Answer, Match, Started, Dropped, after, answer, asks, document, is_dropped, needs_attributes}
-use Rattle.lol_vm.specs.Documents.{Document, children_of, element_of, empty, index_of, outer_part, parent_of, typed_children_of}
-use Rattle.lol_vm.specs.Events.{Event, Start, End, has_content, has_content_in}
-use Rattle.lol_vm.specs.Matching.{left_matches, matches, parent_passes, some_ancestor_passes}
+use Rattle.lol_machine.specs.AnswerLaws.{document_push}
+use Rattle.lol_machine.specs.Answers.{Answer, Match, Started, Dropped, after, answer, asks, document, is_dropped, needs_attributes}
+use Rattle.lol_machine.specs.Documents.{Document, children_of, element_of, empty, index_of, outer_part, parent_of, typed_children_of}
+use Rattle.lol_machine.specs.Events.{Event, Start, End, has_content, has_content_in}
+use Rattle.lol_machine.specs.Matching.{left_matches, matches, parent_passes, some_ancestor_passes}
 
 -- an answer that isn't another kind
 same_kind : (b c : Bool) (m n : List Match) (x y : Bool) (i j k l : ℕ) → (if b then Dropped else Started m x i j) ≡ (if c then Dropped else Started n y k l) → b ≡ c

@@ -4,9 +4,9 @@ use Rattle.lol_base.specs.StartTags.{StartTag}
 use Rattle.lol_base.specs.declared.namespace.Namespace.{Namespace}
 use Rattle.lol_memory.specs.Limiter.{Limiter}
 use Rattle.lol_program.specs.Paths.{Selectors}
-use Rattle.lol_vm.specs.Events.{Event}
-use Rattle.lol_vm.specs.Vms.{Vm, IsPending}
-use Rattle.lol_vm.specs.declared.error.AuxStartTagInfoRequest.{AuxStartTagInfoRequest}
+use Rattle.lol_machine.specs.Events.{Event}
+use Rattle.lol_machine.specs.Vms.{Vm, IsPending}
+use Rattle.lol_machine.specs.declared.error.AuxStartTagInfoRequest.{AuxStartTagInfoRequest}
 use Rattle.lol_matcher.specs.Keeping.{KeepsRunning, Runs, Waits, ids_of}
 use Rattle.lol_matcher.specs.declared.open_element.OpenElement.{OpenElement}
 use Rattle.lol_matcher.proofs.Charges.{charged_on}

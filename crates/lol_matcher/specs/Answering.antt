@@ -8,11 +8,11 @@ use Rattle.lol_instructions.specs.declared.tries.Tries.{Tries}
 use Rattle.lol_memory.specs.Ids.{ascending}
 use Rattle.lol_memory.specs.declared.match_info.MatchInfo.{MatchInfo}
 use Rattle.lol_program.specs.Paths.{Selectors}
-use Rattle.lol_vm.specs.Answers.{Match, answer, document, report, Started}
-use Rattle.lol_vm.specs.Documents.{element_of}
-use Rattle.lol_vm.specs.Events.{Event, Start, has_content}
-use Rattle.lol_vm.specs.Views.{selectors, match_of}
-use Rattle.lol_vm.specs.Vms.{is_asked_for, open_after}
+use Rattle.lol_machine.specs.Answers.{Match, answer, document, report, Started}
+use Rattle.lol_machine.specs.Documents.{element_of}
+use Rattle.lol_machine.specs.Events.{Event, Start, has_content}
+use Rattle.lol_machine.specs.Views.{selectors, match_of}
+use Rattle.lol_machine.specs.Vms.{is_asked_for, open_after}
 use Rattle.lol_matcher.specs.Told.{Told, Matching, elements_of, heard, in_word}
 use Rattle.lol_matcher.specs.Noted.{handed, started_told, asked_told, ended_told}
 use Rattle.lol_matcher.specs.declared.matcher.Started as started

@@ -7,7 +7,7 @@ use Rattle.lol_reasons.specs.Explanations.{Reason, Text, added_by, explanations}
 use Rattle.lol_reasons.specs.Numbered.{HoldsItems}
 use Rattle.lol_reasons.specs.ReasonLaws.{ids_of_reasons}
 use Rattle.lol_reasons.specs.declared.explainer.Explainer.{Explainer}
-use Rattle.lol_vm.specs.Views.{selectors}
+use Rattle.lol_machine.specs.Views.{selectors}
 use Rattle.lol_matcher.specs.Last.{last_or}
 use Rattle.lol_matcher.specs.Told.{Matching, Told, heard}
 

@@ -6,11 +6,11 @@ use Rattle.std.specs.Option.{option_map}
 use Rattle.lol_instructions.specs.Tests.{Element}
 use Rattle.lol_memory.specs.declared.match_info.MatchInfo.{MatchInfo}
 use Rattle.lol_program.specs.Paths.{Selectors}
-use Rattle.lol_vm.specs.Answers.{after, document, document_from, matching_ids}
-use Rattle.lol_vm.specs.Documents.{Document, empty}
-use Rattle.lol_vm.specs.Events.{Event}
-use Rattle.lol_vm.specs.Laws.{ids_of}
-use Rattle.lol_vm.specs.Views.{match_of}
+use Rattle.lol_machine.specs.Answers.{after, document, document_from, matching_ids}
+use Rattle.lol_machine.specs.Documents.{Document, empty}
+use Rattle.lol_machine.specs.Events.{Event}
+use Rattle.lol_machine.specs.Laws.{ids_of}
+use Rattle.lol_machine.specs.Views.{match_of}
 use Rattle.lol_reasons.specs.Explanations.{Added, Reason, Text, added_by, explanations, explanations_from, reasons, reasons_at}
 use Rattle.lol_reasons.specs.Numbered.{HasItemsOf}
 use Rattle.lol_reasons.specs.NumberingLaws.{NumbersNameWhatMatches}

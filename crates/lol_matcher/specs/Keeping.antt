@@ -9,14 +9,14 @@ use Rattle.lol_memory.specs.Limiter.{Limiter}
 use Rattle.lol_memory.specs.declared.match_info.MatchInfo.{MatchInfo}
 use Rattle.lol_instructions.specs.Tests.{Element}
 use Rattle.lol_program.specs.Paths.{Selectors}
-use Rattle.lol_vm.specs.Answers.{document, is_dropped}
-use Rattle.lol_vm.specs.Documents.{children_of, element_of}
-use Rattle.lol_vm.specs.Events.{Event, Start, has_content}
-use Rattle.lol_vm.specs.Refusals.{Allowance, greatest_count}
-use Rattle.lol_vm.specs.ReportRoom.{HoldsEachReport}
-use Rattle.lol_vm.specs.Views.{selectors}
-use Rattle.lol_vm.specs.Vms.{Vm, Stands, HasOpen, IsPending, IsRestOf, data_in, is_asked_for, slots_charged, slot_bytes, tries_in}
-use Rattle.lol_vm.specs.declared.error.AuxStartTagInfoRequest.{AuxStartTagInfoRequest}
+use Rattle.lol_machine.specs.Answers.{document, is_dropped}
+use Rattle.lol_machine.specs.Documents.{children_of, element_of}
+use Rattle.lol_machine.specs.Events.{Event, Start, has_content}
+use Rattle.lol_machine.specs.Refusals.{Allowance, greatest_count}
+use Rattle.lol_machine.specs.ReportRoom.{HoldsEachReport}
+use Rattle.lol_machine.specs.Views.{selectors}
+use Rattle.lol_machine.specs.Vms.{Vm, Stands, HasOpen, IsPending, IsRestOf, data_in, is_asked_for, slots_charged, slot_bytes, tries_in}
+use Rattle.lol_machine.specs.declared.error.AuxStartTagInfoRequest.{AuxStartTagInfoRequest}
 use Rattle.lol_matcher.specs.Answering.{IsReported, KeepsOne, with_last_number}
 use Rattle.lol_matcher.specs.Last.{IsLast}
 use Rattle.lol_matcher.specs.Refusing.{allowance, refusal_after}

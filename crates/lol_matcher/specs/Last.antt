@@ -4,10 +4,10 @@ use Rattle.lol_instructions.specs.Tries.{names_counted, attributes_counted}
 use Rattle.lol_instructions.specs.declared.tries.Tries.{Tries}
 use Rattle.lol_memory.specs.declared.match_info.MatchInfo.{MatchInfo}
 use Rattle.lol_program.specs.Paths.{Selectors}
-use Rattle.lol_vm.specs.Answers.{Answer, Match, Started, Dropped, Ended, after, answers, is_dropped}
-use Rattle.lol_vm.specs.Documents.{Document, element_of, empty}
-use Rattle.lol_vm.specs.Events.{Event, Start, End, has_content}
-use Rattle.lol_vm.specs.Views.{match_of}
+use Rattle.lol_machine.specs.Answers.{Answer, Match, Started, Dropped, Ended, after, answers, is_dropped}
+use Rattle.lol_machine.specs.Documents.{Document, element_of, empty}
+use Rattle.lol_machine.specs.Events.{Event, Start, End, has_content}
+use Rattle.lol_machine.specs.Views.{match_of}
 use Rattle.lol_matcher.specs.Told.{Told, heard}
 
 -- the last of a list, or a given one where there is none

@@ -6,11 +6,11 @@ use Rattle.lol_instructions.specs.Tries.{names_counted, attributes_counted}
 use Rattle.lol_instructions.specs.declared.tries.Tries.{Tries}
 use Rattle.lol_memory.specs.declared.match_info.MatchInfo.{MatchInfo}
 use Rattle.lol_program.specs.Paths.{Selectors}
-use Rattle.lol_vm.specs.Answers.{Answer, Match, Started, Dropped, Ended, after, answer, answers_from, asks, document, document_from, is_dropped, report}
-use Rattle.lol_vm.specs.Documents.{Document, element_of, empty}
-use Rattle.lol_vm.specs.Events.{Event, Start, End, has_content}
-use Rattle.lol_vm.specs.Views.{match_of}
-use Rattle.lol_vm.specs.Vms.{is_asked_for}
+use Rattle.lol_machine.specs.Answers.{Answer, Match, Started, Dropped, Ended, after, answer, answers_from, asks, document, document_from, is_dropped, report}
+use Rattle.lol_machine.specs.Documents.{Document, element_of, empty}
+use Rattle.lol_machine.specs.Events.{Event, Start, End, has_content}
+use Rattle.lol_machine.specs.Views.{match_of}
+use Rattle.lol_machine.specs.Vms.{is_asked_for}
 use Rattle.lol_matcher.specs.Last.{HasTries, IsLast, last_answer, last_opens, last_or, matches_in, opens_by, opens_from}
 use Rattle.lol_matcher.specs.Told.{Told, heard}
 

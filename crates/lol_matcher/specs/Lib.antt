@@ -1,4 +1,5 @@
 pub mod Told
+pub mod ClosedLaws
 pub mod Last
 pub mod LastLaws
 pub mod Noted

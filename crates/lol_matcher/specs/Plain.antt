@@ -12,11 +12,11 @@ use Rattle.lol_reasons.specs.Numbered.{HoldsItems}
 use Rattle.lol_reasons.specs.NumberingLaws.{reporting}
 use Rattle.lol_reasons.specs.ReasonLaws.{ids_of_reasons}
 use Rattle.lol_reasons.specs.declared.texts.Numbering.{Numbering}
-use Rattle.lol_vm.specs.Answers.{Match, answer, document}
-use Rattle.lol_vm.specs.Events.{Event, Start, has_content}
-use Rattle.lol_vm.specs.Refusals.{Allowance}
-use Rattle.lol_vm.specs.Views.{selectors}
-use Rattle.lol_vm.specs.Vms.{is_asked_for}
+use Rattle.lol_machine.specs.Answers.{Match, answer, document}
+use Rattle.lol_machine.specs.Events.{Event, Start, has_content}
+use Rattle.lol_machine.specs.Refusals.{Allowance}
+use Rattle.lol_machine.specs.Views.{selectors}
+use Rattle.lol_machine.specs.Vms.{is_asked_for}
 use Rattle.lol_matcher.specs.Refusing.{refusal_after}
 
 -- The selectors of texts, each item under the id of its text.

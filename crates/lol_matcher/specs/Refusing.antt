@@ -3,11 +3,11 @@ use Rattle.std.specs.Prelude.{ℕ, ◌≡◌, Bool, false, List, Option, Some, N
 use Rattle.lol_base.specs.StartTags.{StartTag}
 use Rattle.lol_base.specs.declared.namespace.Namespace.{Namespace}
 use Rattle.lol_program.specs.Paths.{Selectors}
-use Rattle.lol_vm.specs.Answers.{document}
-use Rattle.lol_vm.specs.Events.{Event, Start}
-use Rattle.lol_vm.specs.FreeTags.{AreFlat, RunsWithoutMemory}
-use Rattle.lol_vm.specs.Refusals.{Allowance, Cause, Limit, Counter, longest, refusal}
-use Rattle.lol_vm.specs.Views.{selectors}
+use Rattle.lol_machine.specs.Answers.{document}
+use Rattle.lol_machine.specs.Events.{Event, Start}
+use Rattle.lol_machine.specs.FreeTags.{AreFlat, RunsWithoutMemory}
+use Rattle.lol_machine.specs.Refusals.{Allowance, Cause, Limit, Counter, longest, refusal}
+use Rattle.lol_machine.specs.Views.{selectors}
 use Rattle.lol_matcher.specs.Told.{Matching, heard}
 use Rattle.lol_matcher.specs.declared.error.MatcherError.{MatcherError}
 use Rattle.lol_matcher.specs.declared.error.MatcherError.TheVariants.{MemoryLimitExceeded, Memory, CounterFull, Failed, NotAsked, OutsideInput}

@@ -4,18 +4,18 @@ ghost use Rattle.std.specs.Prelude.{◌≡◌, OnOk, OnErr, IfOk, IfErr, vec_cap
 ghost use Rattle.lol_base.specs.StartTags.{RangesAreInside};
 ghost use Rattle.lol_matcher.specs.Keeping.{ForHandedTag, ForTag, IsCharged, IsToldAs, allowed};
 ghost use Rattle.lol_matcher.specs.Refusing.{IsRefusedFor, refusal_after};
-ghost use Rattle.lol_vm.specs.Answers.{document};
-ghost use Rattle.lol_vm.specs.FreeTags.{AreFlat};
-ghost use Rattle.lol_vm.specs.ReportRoom.{HoldsEachReport, TakesInRoom};
-ghost use Rattle.lol_vm.specs.Vms.{HasOpen, IsTriedAtMost, data_in, is_asked_for, slot_bytes, tries_in, NeedsRest};
+ghost use Rattle.lol_machine.specs.Answers.{document};
+ghost use Rattle.lol_machine.specs.FreeTags.{AreFlat};
+ghost use Rattle.lol_machine.specs.ReportRoom.{HoldsEachReport, TakesInRoom};
+ghost use Rattle.lol_machine.specs.Vms.{HasOpen, IsTriedAtMost, data_in, is_asked_for, slot_bytes, tries_in, NeedsRest};
 
 use crate::error::MatcherError;
 use crate::laws::run_laws;
 use crate::open_element::OpenElement;
 use crate::tags::number_opened;
 use lol_base::{AuxStartTagInfo, LocalName, Namespace};
+use lol_machine::{SelectorMatchingVm, StartTagError};
 use lol_memory::{MatchInfo, SharedMemoryLimiter};
-use lol_vm::{SelectorMatchingVm, StartTagError};
 
 /// A start tag that was reported: whether its attributes were asked for, and whether its element was opened.
 #[derive(Clone, Copy)]

@@ -9,10 +9,10 @@ use crate::open_element::{OpenElement, OpenElements};
 use crate::past::{Note, Past};
 use crate::tags::{Answered, drop_request, end_tag, finish_tag, replace_value, start_tag};
 use lol_base::{AuxStartTagInfo, Namespace};
+use lol_machine::{AuxStartTagInfoRequest, SelectorMatchingVm};
 use lol_memory::{MatchId, MatchInfo, SharedMemoryLimiter};
 use lol_program::{Ast, Tries};
 use lol_reasons::{Explainer, Reason};
-use lol_vm::{AuxStartTagInfoRequest, SelectorMatchingVm};
 use std::alloc::{AllocError, Global};
 use std::marker::Model;
 
@@ -44,7 +44,7 @@ impl<T> Model for Matcher<T> {
     ghost use Rattle.std.specs.Coded.{codes};
     ghost use Rattle.lol_memory.specs.Ids.{ids_code};
     ghost use Rattle.lol_program.specs.contracts.ast.Ast as tree;
-    ghost use Rattle.lol_vm.specs.Vms.{data_in, slot_bytes, tries_in};
+    ghost use Rattle.lol_machine.specs.Vms.{data_in, slot_bytes, tries_in};
     ghost use Rattle.lol_matcher.specs.Told.{Matching};
     ghost use Rattle.lol_matcher.specs.Keeping.{Keeps};
 
@@ -114,10 +114,10 @@ impl<T: Drop> Matcher<T> {
     ghost use Rattle.lol_matcher.specs.Refusing.{Fits, RefusesStart, RefusesStartWith, RefusesFinish, refusal_of};
     ghost use Rattle.lol_matcher.specs.Told.{elements_of, heard, in_word, numbers_open};
     ghost use Rattle.lol_reasons.specs.Numbered.{reason_shown};
-    ghost use Rattle.lol_vm.specs.Documents.{index_of, inner_part};
-    ghost use Rattle.lol_vm.specs.ReportRoom.{HoldsEachReport};
-    ghost use Rattle.lol_vm.specs.Views.{match_of, selectors};
-    ghost use Rattle.lol_vm.specs.Vms.{IsTriedAtMost, Stands, data_in, is_asked_for, open_after};
+    ghost use Rattle.lol_machine.specs.Documents.{index_of, inner_part};
+    ghost use Rattle.lol_machine.specs.ReportRoom.{HoldsEachReport};
+    ghost use Rattle.lol_machine.specs.Views.{match_of, selectors};
+    ghost use Rattle.lol_machine.specs.Vms.{IsTriedAtMost, Stands, data_in, is_asked_for, open_after};
 
     /// A matcher for the selectors of a tree.
     pub(crate) fn new(

@@ -9,17 +9,17 @@ ghost use Rattle.lol_stack.specs.Calls.{IsCalledAtEach};
 ghost use Rattle.lol_matcher.specs.Keeping.{ForRequest, ForTag, KeepsOpen, KeepsRunning, NumbersOpened, Runs, Tells, IsCharged, IsToldAs, allowed, count_with, ids_of};
 ghost use Rattle.lol_matcher.specs.Answering.{last_value, with_last_number, with_value};
 ghost use Rattle.lol_matcher.specs.Refusing.{IsRefusedFor, refusal_after};
-ghost use Rattle.lol_vm.specs.Events.{Event, End};
-ghost use Rattle.lol_vm.specs.FreeTags.{AreFlat, RunsWithoutMemory};
-ghost use Rattle.lol_vm.specs.ReportRoom.{HoldsEachReport, TakesInRoom};
-ghost use Rattle.lol_vm.specs.Vms.{HasOpen, IsPending, IsTriedAtMost, data_in, open_after, slot_bytes, tries_in, NeedsRest};
+ghost use Rattle.lol_machine.specs.Events.{Event, End};
+ghost use Rattle.lol_machine.specs.FreeTags.{AreFlat, RunsWithoutMemory};
+ghost use Rattle.lol_machine.specs.ReportRoom.{HoldsEachReport, TakesInRoom};
+ghost use Rattle.lol_machine.specs.Vms.{HasOpen, IsPending, IsTriedAtMost, data_in, open_after, slot_bytes, tries_in, NeedsRest};
 
 use crate::error::MatcherError;
 use crate::laws::{data_laws, run_laws};
 use crate::open_element::OpenElement;
 use lol_base::{AuxStartTagInfo, LocalName, Namespace};
+use lol_machine::{AuxStartTagInfoRequest, SelectorMatchingVm, VmError};
 use lol_memory::{MatchInfo, PushError, SharedMemoryLimiter};
-use lol_vm::{AuxStartTagInfoRequest, SelectorMatchingVm, VmError};
 use std::mem;
 
 /// What is answered to a start tag.

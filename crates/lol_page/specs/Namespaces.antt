@@ -9,7 +9,7 @@ use Rattle.lol_base.specs.declared.namespace.Namespace.{Namespace}
 use Rattle.lol_base.specs.declared.namespace.Namespace.TheVariants.{Html, Svg, MathML}
 use Rattle.lol_instructions.specs.Attributes.{value_among}
 use Rattle.lol_instructions.specs.Tests.{has_value}
-use Rattle.lol_vm.specs.Events.{has_content}
+use Rattle.lol_machine.specs.Events.{has_content}
 
 -- 1. Elements
 

@@ -3,7 +3,7 @@ use Rattle.std.specs.Prelude.{ℕ, Bool, true, false, List, [], ◌∷◌, ◌++
 use Rattle.lol_base.specs.StartTags.{Attribute}
 use Rattle.lol_base.specs.declared.namespace.Namespace.{Namespace}
 use Rattle.lol_base.specs.declared.namespace.Namespace.TheVariants.{Html, Svg, MathML}
-use Rattle.lol_vm.specs.Events.{Event, Start}
+use Rattle.lol_machine.specs.Events.{Event, Start}
 use Rattle.lol_page.specs.PageTags.{PageTag}
 use Rattle.lol_page.specs.Pages.{page_tags}
 

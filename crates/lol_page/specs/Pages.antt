@@ -4,7 +4,7 @@ use Rattle.std.specs.Option.{option_map}
 use Rattle.lol_base.specs.LocalNames.{local_name}
 use Rattle.lol_base.specs.StartTags.{StartTag}
 use Rattle.lol_base.specs.declared.namespace.Namespace.{Namespace}
-use Rattle.lol_vm.specs.Events.{Event, Start, End}
+use Rattle.lol_machine.specs.Events.{Event, Start, End}
 use Rattle.lol_tags.specs.Attributes.{attributes_of}
 use Rattle.lol_tags.specs.Places.{name_start}
 use Rattle.lol_tags.specs.Reading.{step, ended, fresh, told_foreign}

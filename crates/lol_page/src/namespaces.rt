@@ -10,7 +10,7 @@ ghost use Rattle.lol_instructions.specs.Attributes.{value_among};
 ghost use Rattle.lol_tags.specs.Attributes.{attributes_of};
 ghost use Rattle.lol_page.specs.Elements.{element_of};
 ghost use Rattle.lol_page.specs.Namespaces as names;
-ghost use Rattle.lol_vm.specs.Events as events;
+ghost use Rattle.lol_machine.specs.Events as events;
 
 use crate::open_elements::OpenItem;
 use lol_base::{AttributeBuffer, AttributeOutline, Bytes, LocalName, Namespace};

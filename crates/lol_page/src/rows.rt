@@ -2,7 +2,7 @@
 
 ghost use Rattle.std.specs.Prelude.{◌≡◌, ◌∷◌, [], true, false, codes};
 ghost use Rattle.lol_base.specs.declared.namespace.Namespace.TheVariants.{Html, Svg};
-ghost use Rattle.lol_vm.specs.Events.{End};
+ghost use Rattle.lol_machine.specs.Events.{End};
 ghost use Rattle.lol_page.specs.PageRows.{tags_read, tags_said, page_text_rows, point_rows, breakout_rows, end_rows, places_read, lines_page, place, start, attribute};
 ghost use Rattle.lol_page.specs.Pages.{page_events};
 

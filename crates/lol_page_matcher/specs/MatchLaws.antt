@@ -5,11 +5,11 @@ use Rattle.std.proofs.Math.Seq.{take-append_seam, drop-append_seam}
 use Rattle.lol_program.specs.Paths.{Selectors}
 use Rattle.lol_program.specs.declared.ast.Ast.{Ast}
 use Rattle.lol_tags.specs.Runs.{with_some, run-append, given-append}
-use Rattle.lol_vm.specs.Answers.{Answer, after, answer, answers_from, document, document_from}
-use Rattle.lol_vm.specs.AnswerLaws.{answers_append}
-use Rattle.lol_vm.specs.Documents.{Document, empty}
-use Rattle.lol_vm.specs.Events.{Event}
-use Rattle.lol_vm.specs.Views.{selectors}
+use Rattle.lol_machine.specs.Answers.{Answer, after, answer, answers_from, document, document_from}
+use Rattle.lol_machine.specs.AnswerLaws.{answers_append}
+use Rattle.lol_machine.specs.Documents.{Document, empty}
+use Rattle.lol_machine.specs.Events.{Event}
+use Rattle.lol_machine.specs.Views.{selectors}
 use Rattle.lol_matcher.specs.Told.{Told, heard}
 use Rattle.lol_page.specs.PageTags.{PageTag}
 use Rattle.lol_page.specs.Pages as pages

@@ -6,10 +6,10 @@ use Rattle.lol_memory.specs.declared.match_info.MatchInfo.{MatchInfo}
 use Rattle.lol_program.specs.Paths.{Selectors}
 use Rattle.lol_tags.specs.Runs.{with_some}
 use Rattle.lol_tags.specs.declared.reader.Tag.{Tag}
-use Rattle.lol_vm.specs.Answers.{Answer, Match, answers, answers_from, document}
-use Rattle.lol_vm.specs.Events.{Event}
-use Rattle.lol_vm.specs.Views.{match_of, selectors}
-use Rattle.lol_vm.specs.Vms.{open_after}
+use Rattle.lol_machine.specs.Answers.{Answer, Match, answers, answers_from, document}
+use Rattle.lol_machine.specs.Events.{Event}
+use Rattle.lol_machine.specs.Views.{match_of, selectors}
+use Rattle.lol_machine.specs.Vms.{open_after}
 use Rattle.lol_matcher.specs.Last.{matches_in}
 use Rattle.lol_matcher.specs.Told.{Matching, Told, heard}
 use Rattle.lol_matcher.specs.declared.open_element.OpenElement.{OpenElement}

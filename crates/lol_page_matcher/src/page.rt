@@ -10,14 +10,14 @@ ghost use Rattle.lol_page_matcher.specs.PageRefusals.{Accepts, FitsTag, IsRefuse
 ghost use Rattle.lol_matcher.specs.Answering.{last_value, with_value};
 ghost use Rattle.lol_matcher.specs.Last.{last_opens};
 ghost use Rattle.lol_matcher.specs.Told.{elements_of};
-ghost use Rattle.lol_vm.specs.Views.{match_of, selectors};
+ghost use Rattle.lol_machine.specs.Views.{match_of, selectors};
 
 use crate::error::PageError;
 use lol_base::{AttributeBuffer, AuxStartTagInfo, Bytes};
+use lol_machine::vm_laws::standing_counts;
 use lol_matcher::{MatchInfo, Matcher, OpenElement};
 use lol_page::{PageRead, PageReader, PlacedTag};
 use lol_tags::push_outlines;
-use lol_vm::vm_laws::standing_counts;
 use std::alloc::Global;
 
 /// A page whose tags are told to a matcher. Each open element may have a value of the caller's own, of the type `T`.

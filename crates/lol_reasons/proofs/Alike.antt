@@ -6,12 +6,12 @@ use Rattle.lol_instructions.specs.Tests.{Element}
 use Rattle.lol_program.specs.Asts.{is_with_rows}
 use Rattle.lol_program.specs.ClosedLaws.{trees_are_closed}
 use Rattle.lol_program.specs.Paths.{Selectors}
-use Rattle.lol_vm.specs.AnswerLaws as laws
-use Rattle.lol_vm.specs.Answers.{Answer, Started, Dropped, after, answer, asks, attribute_tries, document_from, is_dropped, name_tries, report}
-use Rattle.lol_vm.specs.Documents.{Document, element_of, empty}
-use Rattle.lol_vm.specs.Events.{Event, Start, End}
-use Rattle.lol_vm.specs.Laws.{SameSelectors}
-use Rattle.lol_vm.specs.Refusals.{Allowance, longest_from, or_later, refusal, refused_from}
+use Rattle.lol_machine.specs.AnswerLaws as laws
+use Rattle.lol_machine.specs.Answers.{Answer, Started, Dropped, after, answer, asks, attribute_tries, document_from, is_dropped, name_tries, report}
+use Rattle.lol_machine.specs.Documents.{Document, element_of, empty}
+use Rattle.lol_machine.specs.Events.{Event, Start, End}
+use Rattle.lol_machine.specs.Laws.{SameSelectors}
+use Rattle.lol_machine.specs.Refusals.{Allowance, longest_from, or_later, refusal, refused_from}
 use Rattle.lol_reasons.specs.NumberingLaws.{GoesAlike, NodesDecideTheRest, NumbersChangeNoNode, RunsAlike, SameNodes, reporting}
 
 module _ (s t : Selectors) (same : SameNodes s t) (esi : Bool) where

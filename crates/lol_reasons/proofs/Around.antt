@@ -8,13 +8,13 @@ use Rattle.lol_program.specs.Programs.{Program}
 use Rattle.lol_program.specs.ProgramViews.{program_shown}
 use Rattle.lol_stack.specs.Stacks.{items_in}
 use Rattle.lol_stack.specs.declared.stack_item.StackItemOf.{StackItemOf}
-use Rattle.lol_vm.specs.Answers.{document}
-use Rattle.lol_vm.specs.AnswerLaws.{document_push}
-use Rattle.lol_vm.specs.Documents.{Document, empty, element_of}
-use Rattle.lol_vm.specs.Events.{Start}
-use Rattle.lol_vm.specs.Follows.{opens}
-use Rattle.lol_vm.specs.Machines.{OpenItem, AreItems, item_shown, items_shown}
-use Rattle.lol_vm.specs.Vms.{program_in, stack_in}
+use Rattle.lol_machine.specs.Answers.{document}
+use Rattle.lol_machine.specs.AnswerLaws.{document_push}
+use Rattle.lol_machine.specs.Documents.{Document, empty, element_of}
+use Rattle.lol_machine.specs.Events.{Start}
+use Rattle.lol_machine.specs.Answers.{opens}
+use Rattle.lol_machine.specs.Machines.{OpenItem, AreItems, item_shown, items_shown}
+use Rattle.lol_machine.specs.Vms.{program_in, stack_in}
 use Rattle.lol_reasons.specs.MachinesShow.{MachinesShowAround, items_around}
 use Rattle.lol_reasons.proofs.Climbs.{cut}
 

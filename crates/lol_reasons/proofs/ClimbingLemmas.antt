@@ -16,8 +16,8 @@ use Rattle.lol_program.specs.Programs.{Instruction, Program, IsWithin, IsAt, Hol
 use Rattle.lol_program.specs.ProgramViews.{instruction_shown, program_shown}
 use Rattle.lol_program.specs.StepLaws.{one_front, one_step}
 use Rattle.lol_program.specs.declared.program.Program as program
-use Rattle.lol_vm.specs.Machines.{OpenItem, IsItem, AreItems}
-use Rattle.lol_vm.specs.Matching.{matches, some_ancestor_passes}
+use Rattle.lol_machine.specs.Machines.{OpenItem, IsItem, AreItems}
+use Rattle.lol_machine.specs.Matching.{matches, some_ancestor_passes}
 use Rattle.lol_reasons.specs.Climbing.{StandsUnder, is_within, have_address, has_address, node_above_from, nearest_giving, range_in}
 use Rattle.lol_reasons.specs.Witnesses.{given_at_nearest}
 use Rattle.lol_reasons.specs.declared.witness.NodeAbove.{NodeAbove}

@@ -12,8 +12,8 @@ use Rattle.lol_program.specs.Paths.{Path, First, Then, Selectors}
 use Rattle.lol_program.specs.Programs.{Program, IsAt, IsProgramOf, AreClosed}
 use Rattle.lol_program.specs.ProgramViews.{program_shown}
 use Rattle.lol_program.specs.declared.program.Program as program
-use Rattle.lol_vm.specs.Machines.{OpenItem, AreItems}
-use Rattle.lol_vm.specs.Matching.{matches, step_reaches}
+use Rattle.lol_machine.specs.Machines.{OpenItem, AreItems}
+use Rattle.lol_machine.specs.Matching.{matches, step_reaches}
 use Rattle.lol_reasons.specs.Climbing.{StandsUnder, reached_by}
 use Rattle.lol_reasons.specs.Matched.{HasMatched}
 use Rattle.lol_reasons.specs.Witnesses.{innermost_witness, known_witness, step_gives}

@@ -4,7 +4,7 @@ use Rattle.std.specs.Prelude.{filter_map, slice_get}
 use Rattle.std.specs.List.{cons_option}
 use Rattle.lol_instructions.specs.Tests.{Element}
 use Rattle.lol_program.specs.Programs.{IsAt}
-use Rattle.lol_vm.specs.Matching.{matches}
+use Rattle.lol_machine.specs.Matching.{matches}
 use Rattle.lol_reasons.specs.Explanations.{Added, added_by}
 use Rattle.lol_reasons.specs.NumberingLaws.{NumbersNameWhatMatches}
 use Rattle.lol_reasons.specs.ReasonLaws.{source_of_added}

@@ -9,8 +9,8 @@ use Rattle.lol_base.specs.PlaceLaws.{some_is}
 use Rattle.lol_instructions.specs.Tests.{Element}
 use Rattle.lol_program.specs.Paths.{Path}
 use Rattle.lol_program.specs.Programs.{IsAt}
-use Rattle.lol_vm.specs.Answers.{matching_ids}
-use Rattle.lol_vm.specs.Matching.{matches}
+use Rattle.lol_machine.specs.Answers.{matching_ids}
+use Rattle.lol_machine.specs.Matching.{matches}
 use Rattle.lol_reasons.specs.Explanations.{Added, added_items}
 use Rattle.lol_reasons.specs.Numbered.{numbered_from}
 

@@ -9,13 +9,13 @@ use Rattle.lol_base.specs.MemberLaws.{Among, among_from_contains, contains_from_
 use Rattle.lol_instructions.specs.Tests.{Element}
 use Rattle.lol_program.specs.Paths.{Path, Selectors}
 use Rattle.lol_program.specs.Conditions.{paths_of, pairs_under}
-use Rattle.lol_vm.specs.Matching.{matches}
+use Rattle.lol_machine.specs.Matching.{matches}
 use Rattle.lol_program.specs.Sets.{SameMembers}
-use Rattle.lol_vm.specs.Events.{Event, Start, End, has_content}
-use Rattle.lol_vm.specs.Documents.{Document, empty, element_of}
-use Rattle.lol_vm.specs.Answers.{Started, Dropped, report, asks, is_dropped, name_tries, attribute_tries, matching_ids, answer, after, answers_from, document_from}
-use Rattle.lol_vm.specs.Laws.{ids_of}
-use Rattle.lol_vm.specs.ReportLaws.{matching_ids-same}
+use Rattle.lol_machine.specs.Events.{Event, Start, End, has_content}
+use Rattle.lol_machine.specs.Documents.{Document, empty, element_of}
+use Rattle.lol_machine.specs.Answers.{Started, Dropped, report, asks, is_dropped, name_tries, attribute_tries, matching_ids, answer, after, answers_from, document_from}
+use Rattle.lol_machine.specs.Laws.{ids_of}
+use Rattle.lol_machine.specs.ReportLaws.{matching_ids-same}
 use Rattle.lol_reasons.specs.Witnesses.{innermost_witness}
 use Rattle.lol_reasons.specs.Explanations.{Text, Added, added_items, added_from, pairs_added, Reason, reason_by, reasons, reasons_at, explanations_from}
 use Rattle.lol_reasons.specs.ReasonLaws.{PairsAreAdded, ReasonsGiveReport, EachHasOneReason, ReasonsAreExact, IsReasonOf, ids_of_reasons, source_of_reason, source_of_added, RunsAreExplained, ReasonsStay, ids_reported}

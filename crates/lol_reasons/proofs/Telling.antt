@@ -12,10 +12,10 @@ use Rattle.lol_instructions.specs.Tests.{Element}
 use Rattle.lol_program.specs.Paths.{Path, Selectors}
 use Rattle.lol_program.specs.Programs.{IsAt, Program}
 use Rattle.lol_stack.specs.declared.stack_item.StackItemOf.{StackItemOf}
-use Rattle.lol_vm.specs.Answers.{matching_ids}
-use Rattle.lol_vm.specs.Matching.{matches}
-use Rattle.lol_vm.specs.ReportLaws.{matching_ids-same}
-use Rattle.lol_vm.specs.Machines.{item_shown, items_shown}
+use Rattle.lol_machine.specs.Answers.{matching_ids}
+use Rattle.lol_machine.specs.Matching.{matches}
+use Rattle.lol_machine.specs.ReportLaws.{matching_ids-same}
+use Rattle.lol_machine.specs.Machines.{item_shown, items_shown}
 use Rattle.lol_reasons.specs.Explanations.{Added, Reason, Text, added_by, reason_by, reason_of, reasons}
 use Rattle.lol_reasons.specs.Matched.{IsAlone, IsAround}
 use Rattle.lol_reasons.specs.MachinesShow.{items_around}

@@ -8,8 +8,8 @@ use Rattle.lol_base.specs.BoolLaws.{and_parts, and_of}
 use Rattle.lol_instructions.specs.Tests.{Element}
 use Rattle.lol_instructions.specs.Compounds.{Compound, all_hold}
 use Rattle.lol_program.specs.Paths.{Path, First, Then, beginnings}
-use Rattle.lol_vm.specs.Matching.{matches, step_reaches, some_ancestor_passes}
-use Rattle.lol_vm.specs.Standing.{Descend}
+use Rattle.lol_machine.specs.Matching.{matches, step_reaches, some_ancestor_passes}
+use Rattle.lol_machine.specs.Standing.{Descend}
 use Rattle.lol_reasons.specs.Witnesses.{SomeAncestorHas, StepLeadsTo, IsWitness, first_found, found_at_nearest, step_finds, innermost_witness, AreNoNearer, given_at_nearest, step_gives, known_witness}
 use Rattle.lol_reasons.specs.WitnessLaws.{InnermostIsWitness, MatchesByWitness, InnermostWhereMatches, WitnessesAreComplete, NoneIsNearer, InnermostIsOnlyOne, InnermostIsKnown}
 

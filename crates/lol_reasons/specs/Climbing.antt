@@ -8,7 +8,7 @@ use Rattle.lol_memory.specs.Ids.{ascending}
 use Rattle.lol_instructions.specs.declared.instruction.Instruction.{Instruction}
 use Rattle.lol_program.specs.Paths.{Path, First, Then}
 use Rattle.lol_program.specs.Programs.{IsAt}
-use Rattle.lol_vm.specs.Machines.{OpenItem}
+use Rattle.lol_machine.specs.Machines.{OpenItem}
 use Rattle.lol_reasons.specs.declared.witness.NodeAbove.{NodeAbove}
 
 abbrev pub is_within : ℕ → Range ℕ → Bool

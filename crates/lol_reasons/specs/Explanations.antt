@@ -5,9 +5,9 @@ use Rattle.lol_css.specs.Trees.{Items}
 use Rattle.lol_instructions.specs.Tests.{Element}
 use Rattle.lol_program.specs.Paths.{Path, Selectors}
 use Rattle.lol_program.specs.Conditions.{paths_of}
-use Rattle.lol_vm.specs.Events.{Event, Start, End}
-use Rattle.lol_vm.specs.Documents.{Document, empty, element_of}
-use Rattle.lol_vm.specs.Answers.{is_dropped, after}
+use Rattle.lol_machine.specs.Events.{Event, Start, End}
+use Rattle.lol_machine.specs.Documents.{Document, empty, element_of}
+use Rattle.lol_machine.specs.Answers.{is_dropped, after}
 use Rattle.lol_reasons.specs.Witnesses.{innermost_witness}
 
 -- 1. Selectors with their texts and items

@@ -6,13 +6,13 @@ use Rattle.lol_program.specs.Paths.{Path, Selectors}
 use Rattle.lol_program.specs.ProgramViews.{program_shown}
 use Rattle.lol_stack.specs.Stacks.{items_in}
 use Rattle.lol_stack.specs.declared.stack_item.StackItemOf.{StackItemOf}
-use Rattle.lol_vm.specs.Answers.{document, report}
-use Rattle.lol_vm.specs.Documents.{element_of}
-use Rattle.lol_vm.specs.Events.{Event, Start}
-use Rattle.lol_vm.specs.Follows.{opens}
-use Rattle.lol_vm.specs.Laws.{ids_of}
-use Rattle.lol_vm.specs.Machines.{items_shown}
-use Rattle.lol_vm.specs.Vms.{Vm, Stands, program_in, stack_in}
+use Rattle.lol_machine.specs.Answers.{document, report}
+use Rattle.lol_machine.specs.Documents.{element_of}
+use Rattle.lol_machine.specs.Events.{Event, Start}
+use Rattle.lol_machine.specs.Answers.{opens}
+use Rattle.lol_machine.specs.Laws.{ids_of}
+use Rattle.lol_machine.specs.Machines.{items_shown}
+use Rattle.lol_machine.specs.Vms.{Vm, Stands, program_in, stack_in}
 use Rattle.lol_reasons.specs.Matched.{IsAround}
 
 -- the items around the element of the last start tag: without its own, if it was opened

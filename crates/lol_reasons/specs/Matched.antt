@@ -3,8 +3,8 @@ use Rattle.std.specs.Prelude.{ℕ, ◌≡◌, true, List, map, reverse, Contains
 use Rattle.lol_instructions.specs.Tests.{Element}
 use Rattle.lol_program.specs.Paths.{Path, Selectors}
 use Rattle.lol_program.specs.Programs.{Program, AreClosed, IsAt, IsProgramOf}
-use Rattle.lol_vm.specs.Machines.{AreItems, OpenItem}
-use Rattle.lol_vm.specs.Matching.{matches}
+use Rattle.lol_machine.specs.Machines.{AreItems, OpenItem}
+use Rattle.lol_machine.specs.Matching.{matches}
 
 -- A program is one of selectors, whose addresses are those of these paths. The items, the innermost first, are those of the elements around an
 -- element, and the numbers, the outermost first, theirs.

@@ -7,7 +7,7 @@ use Rattle.lol_program.specs.Asts.{nodes_of, pairs_of}
 use Rattle.lol_program.specs.Conditions.{path_of, paths_of}
 use Rattle.lol_program.specs.Paths.{Path, Selectors, all_beginnings}
 use Rattle.lol_program.specs.Sets.{SameMembers}
-use Rattle.lol_vm.specs.Answers.{matching_ids}
+use Rattle.lol_machine.specs.Answers.{matching_ids}
 use Rattle.lol_reasons.specs.Explanations as texts
 use Rattle.lol_reasons.specs.Explanations.{Added, added_by, added_items, pairs_added}
 use Rattle.lol_reasons.specs.ReasonLaws.{source_of_added}

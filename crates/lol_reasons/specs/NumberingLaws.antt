@@ -5,12 +5,12 @@ use Rattle.lol_instructions.specs.Tests.{Element}
 use Rattle.lol_program.specs.Asts.{is_with_rows}
 use Rattle.lol_program.specs.Paths.{Selectors, all_beginnings}
 use Rattle.lol_program.specs.Sets.{SameMembers}
-use Rattle.lol_vm.specs.Answers.{Answer, Match, Started, Dropped, Ended, after, answer, asks, document, matching_ids, report}
-use Rattle.lol_vm.specs.Documents.{Document, element_of}
-use Rattle.lol_vm.specs.Events.{Event, Start}
-use Rattle.lol_vm.specs.Matching.{matches}
-use Rattle.lol_vm.specs.Refusals.{Allowance, longest, refusal, refused}
-use Rattle.lol_vm.specs.Views.{selectors}
+use Rattle.lol_machine.specs.Answers.{Answer, Match, Started, Dropped, Ended, after, answer, asks, document, matching_ids, report}
+use Rattle.lol_machine.specs.Documents.{Document, element_of}
+use Rattle.lol_machine.specs.Events.{Event, Start}
+use Rattle.lol_machine.specs.Matching.{matches}
+use Rattle.lol_machine.specs.Refusals.{Allowance, longest, refusal, refused}
+use Rattle.lol_machine.specs.Views.{selectors}
 use Rattle.lol_reasons.specs.Explanations.{Text, added_by, pairs_added}
 use Rattle.lol_reasons.specs.Numbered.{HasItemsOf, HoldsItems}
 use Rattle.lol_reasons.specs.ReasonLaws.{source_of_added}

@@ -5,10 +5,10 @@ use Rattle.lol_instructions.specs.Tests.{Element}
 use Rattle.lol_program.specs.Paths.{Selectors}
 use Rattle.lol_program.specs.Conditions.{pairs_under}
 use Rattle.lol_program.specs.Sets.{SameMembers}
-use Rattle.lol_vm.specs.Matching.{matches}
-use Rattle.lol_vm.specs.Events.{Event}
-use Rattle.lol_vm.specs.Answers.{Answer, Started, Dropped, Ended, report, answers, document}
-use Rattle.lol_vm.specs.Laws.{ids_of}
+use Rattle.lol_machine.specs.Matching.{matches}
+use Rattle.lol_machine.specs.Events.{Event}
+use Rattle.lol_machine.specs.Answers.{Answer, Started, Dropped, Ended, report, answers, document}
+use Rattle.lol_machine.specs.Laws.{ids_of}
 use Rattle.lol_reasons.specs.Witnesses.{innermost_witness}
 use Rattle.lol_reasons.specs.Explanations.{Text, Added, added_by, pairs_added, Reason, reasons, explanations, explanations_from}
 

@@ -7,9 +7,9 @@ use Rattle.lol_css.specs.Accepting.{accept}
 use Rattle.lol_css.specs.Trees.{Items, NoItems}
 use Rattle.lol_css.specs.declared.error.SelectorError.{SelectorError}
 use Rattle.lol_program.specs.Nodes.{selectors_of}
-use Rattle.lol_vm.specs.Events.{Event, Start, End}
-use Rattle.lol_vm.specs.Documents.{Document, element_of}
-use Rattle.lol_vm.specs.Answers.{document}
+use Rattle.lol_machine.specs.Events.{Event, Start, End}
+use Rattle.lol_machine.specs.Documents.{Document, element_of}
+use Rattle.lol_machine.specs.Answers.{document}
 use Rattle.lol_reasons.specs.Explanations.{Text, Reason, added_by, pairs_added, reasons}
 
 -- texts under ids, the events before a tag, and the reasons for it

@@ -3,11 +3,11 @@ use Rattle.std.specs.Prelude.{ℕ, ◌≡◌, ◌↔◌, true, Bool, is_some, Li
 use Rattle.lol_base.specs.StartTags.{StartTag}
 use Rattle.lol_instructions.specs.Tests.{Element}
 use Rattle.lol_program.specs.Paths.{Path, Selectors, beginnings}
-use Rattle.lol_vm.specs.Events.{Event}
-use Rattle.lol_vm.specs.Documents.{element_of}
-use Rattle.lol_vm.specs.Matching.{matches}
-use Rattle.lol_vm.specs.Answers.{document}
-use Rattle.lol_vm.specs.Standing.{Descend}
+use Rattle.lol_machine.specs.Events.{Event}
+use Rattle.lol_machine.specs.Documents.{element_of}
+use Rattle.lol_machine.specs.Matching.{matches}
+use Rattle.lol_machine.specs.Answers.{document}
+use Rattle.lol_machine.specs.Standing.{Descend}
 use Rattle.lol_reasons.specs.Witnesses.{IsWitness, innermost_witness, known_witness, AreNoNearer}
 
 -- The innermost witness is a witness.

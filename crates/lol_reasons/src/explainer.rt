@@ -7,11 +7,11 @@ ghost use Rattle.lol_instructions.specs.Tests.{Element};
 ghost use Rattle.lol_program.specs.Paths.{Path, Selectors};
 ghost use Rattle.lol_program.specs.Programs.{IsAt};
 ghost use Rattle.lol_program.specs.ProgramViews.{program_shown};
-ghost use Rattle.lol_vm.specs.Answers.{document};
-ghost use Rattle.lol_vm.specs.Documents.{element_of};
-ghost use Rattle.lol_vm.specs.Events.{Event};
-ghost use Rattle.lol_vm.specs.Matching.{matches};
-ghost use Rattle.lol_vm.specs.Machines.{items_shown};
+ghost use Rattle.lol_machine.specs.Answers.{document};
+ghost use Rattle.lol_machine.specs.Documents.{element_of};
+ghost use Rattle.lol_machine.specs.Events.{Event};
+ghost use Rattle.lol_machine.specs.Matching.{matches};
+ghost use Rattle.lol_machine.specs.Machines.{items_shown};
 ghost use Rattle.lol_reasons.specs.Explanations.{Added, Text, added_by, reason_of, reasons};
 ghost use Rattle.lol_reasons.specs.Matched.{IsAround};
 ghost use Rattle.lol_reasons.specs.MachinesShow.{HasReported};
@@ -19,10 +19,10 @@ ghost use Rattle.lol_reasons.specs.Numbered.{HasItemsOf, HasMatchedItems, KnowsI
 
 use crate::laws::machines_show_around;
 use crate::node_table::NodeTable;
+use lol_machine::SelectorMatchingVm;
 use lol_memory::MatchId;
 use lol_program::Program;
 use lol_stack::StackItem;
-use lol_vm::SelectorMatchingVm;
 use std::alloc::{AllocError, Global};
 
 /// An item of a text's list: the id that the text was added under, the text's number in the order of adding, and the item's in its list,

@@ -25,7 +25,7 @@ pub fn innermost_witnesses_are_innermost()
 pub fn innermost_in_documents()
     ensures { NoneIsNearerInDocuments }
 {
-    lol_vm::machine_laws::documents_are_ordered();
+    lol_machine::machine_laws::documents_are_ordered();
 }
 
 /// The innermost witness is found from what matches where, without a look at compounds.

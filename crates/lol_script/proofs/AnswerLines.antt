@@ -7,10 +7,10 @@ use Rattle.std.proofs.lemmas.List.Folds.{concat-append}
 use Rattle.lol_matcher.specs.Refusing.{allowance}
 use Rattle.lol_program.specs.Paths.{Selectors}
 use Rattle.lol_reasons.specs.Explanations.{added_by, reasons_at}
-use Rattle.lol_vm.specs.Answers.{Answer, after, answer, answers_from, document, document_from}
-use Rattle.lol_vm.specs.Documents.{Document, empty}
-use Rattle.lol_vm.specs.Events.{Event}
-use Rattle.lol_vm.specs.Refusals.{Cause, refused}
+use Rattle.lol_machine.specs.Answers.{Answer, after, answer, answers_from, document, document_from}
+use Rattle.lol_machine.specs.Documents.{Document, empty}
+use Rattle.lol_machine.specs.Events.{Event}
+use Rattle.lol_machine.specs.Refusals.{Cause, refused}
 use Rattle.lol_script.specs.Answering.{Answers, HasSelectors, Hears, IsWritten, output_for, told_event}
 use Rattle.lol_script.specs.Output.{lines_of, shown_answer}
 use Rattle.lol_script.specs.Scripts.{Output, Script, output_of, reason_lines, run_output, selectors_in, shown_cause, text_for, texts_for, texts_in, with_event}

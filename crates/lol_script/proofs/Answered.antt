@@ -15,12 +15,12 @@ use Rattle.lol_matcher.specs.Told.{Told, elements_of, heard}
 use Rattle.lol_matcher.specs.declared.error.MatcherError.{MatcherError}
 use Rattle.lol_matcher.specs.declared.error.MatcherError.TheVariants.{MemoryLimitExceeded, Memory, CounterFull, Failed, NotAsked, OutsideInput}
 use Rattle.lol_matcher.specs.declared.matcher.Started.TheVariants as started
-use Rattle.lol_vm.specs.Answers.{Started, document, is_dropped}
-use Rattle.lol_vm.specs.Documents.{element_of}
-use Rattle.lol_vm.specs.Events.{Event, Start}
-use Rattle.lol_vm.specs.Refusals.{Cause}
-use Rattle.lol_vm.specs.Views.{match_of, selectors}
-use Rattle.lol_vm.specs.Vms.{is_asked_for}
+use Rattle.lol_machine.specs.Answers.{Started, document, is_dropped}
+use Rattle.lol_machine.specs.Documents.{element_of}
+use Rattle.lol_machine.specs.Events.{Event, Start}
+use Rattle.lol_machine.specs.Refusals.{Cause}
+use Rattle.lol_machine.specs.Views.{match_of, selectors}
+use Rattle.lol_machine.specs.Vms.{is_asked_for}
 use Rattle.lol_script.specs.Answering.{GoesOn, IsCauseOf, IsStarted, IsStopped}
 use Rattle.lol_script.specs.declared.script_run.Outcome.TheVariants.{Dropped, Reported}
 use Rattle.lol_script.proofs.StartTags.{M}

@@ -14,12 +14,12 @@ use Rattle.lol_program.specs.Paths.{Selectors}
 use Rattle.lol_program.specs.Sets.{SameMembers}
 use Rattle.lol_program.specs.declared.ast.Ast.{Ast}
 use Rattle.lol_reasons.specs.Explanations.{Reason, added_by, explanations, explanations_from}
-use Rattle.lol_vm.specs.AnswerLaws.{order_changes_nothing}
-use Rattle.lol_vm.specs.Answers.{Answer, after, answers_from}
-use Rattle.lol_vm.specs.Documents.{Document, empty}
-use Rattle.lol_vm.specs.Events.{Event}
-use Rattle.lol_vm.specs.Laws.{SameSelectors}
-use Rattle.lol_vm.specs.Views.{selectors}
+use Rattle.lol_machine.specs.AnswerLaws.{order_changes_nothing}
+use Rattle.lol_machine.specs.Answers.{Answer, after, answers_from}
+use Rattle.lol_machine.specs.Documents.{Document, empty}
+use Rattle.lol_machine.specs.Events.{Event}
+use Rattle.lol_machine.specs.Laws.{SameSelectors}
+use Rattle.lol_machine.specs.Views.{selectors}
 use Rattle.lol_script.specs.Answering.{Answers, HasSelectors, Hears, IsNewMatcher, IsWritten, output_for, told_event}
 use Rattle.lol_script.specs.Explaining.{Explains}
 use Rattle.lol_script.specs.Output.{lines_of, shown_answer}

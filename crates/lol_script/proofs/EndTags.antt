@@ -7,18 +7,20 @@ use Rattle.std.proofs.lemmas.List.{append-nil, take-map}
 use Rattle.lol_base.specs.BoolLaws.{not_true}
 use Rattle.lol_instructions.specs.Tests.{Element}
 use Rattle.lol_matcher.specs.Answering.{with_ended}
+use Rattle.lol_matcher.specs.ClosedLaws.{closed_numbers}
 use Rattle.lol_matcher.specs.Plain.{ItemsAnswerAsTexts}
 use Rattle.lol_matcher.specs.Refusing.{allowance}
 use Rattle.lol_matcher.specs.Told.{heard, in_word}
 use Rattle.lol_program.specs.Paths.{Selectors}
 use Rattle.lol_program.specs.declared.ast.Ast.{Ast}
-use Rattle.lol_vm.specs.AnswerLaws.{document_push}
-use Rattle.lol_vm.specs.Answers.{document}
-use Rattle.lol_vm.specs.Documents.{Document, closed, empty, index_of, inner_part}
-use Rattle.lol_vm.specs.Events.{Event, End}
-use Rattle.lol_vm.specs.Standing.{Descend, DocumentsAreOrdered}
-use Rattle.lol_vm.specs.Views.{selectors}
-use Rattle.lol_vm.specs.Vms.{open_after}
+use Rattle.lol_machine.specs.AnswerLaws.{document_push}
+use Rattle.lol_machine.specs.Answers.{document}
+use Rattle.lol_machine.specs.Documents.{Document, closed, empty, index_of, inner_part}
+use Rattle.lol_machine.specs.Events.{Event, End}
+use Rattle.lol_machine.specs.RefusalLaws.{fits_on}
+use Rattle.lol_machine.specs.Standing.{DocumentsAreOrdered}
+use Rattle.lol_machine.specs.Views.{selectors}
+use Rattle.lol_machine.specs.Vms.{open_after}
 use Rattle.lol_script.specs.Answering.{Answers, HasSelectors, Hears, numbers_closed, told_event}
 use Rattle.lol_script.specs.Output.{comma_list, lines_of}
 use Rattle.lol_script.specs.Scripts.{Script, text_for, with_event}
@@ -26,7 +28,6 @@ use Rattle.lol_script.specs.declared.explained.Explained.{Explained}
 use Rattle.lol_script.specs.declared.script_run.ScriptRun.{ScriptRun}
 use Rattle.lol_script.proofs.AnswerLines.{answered_more, no_reasons}
 use Rattle.lol_script.proofs.Reasons.{then_more}
-use Rattle.lol_script.proofs.RefusedLater.{events_counted, fits_on}
 use Rattle.lol_script.proofs.StartTags.{M, as_texts}
 
 -- a tag before which all are counted exactly
@@ -35,33 +36,7 @@ few_before count events is other =
     let test : (count == 18446744073709551615) ≡ false = not_true (count == 18446744073709551615) (λ same. other ((unsigned_Decides count 18446744073709551615).0 same)) in
     grind (arith, nat_tests)
 
--- 1. The numbers of open elements
-
--- they are counted exactly
-in_words : (bound : ℕ) (elements : List Element) → bound ≤ 2 ^ 64 - 1 → Descend bound elements → map (λ (e : Element). in_word e.number) elements ≡ map (λ (e : Element). e.number) elements
-in_words bound [] within falls = refl
-in_words bound (x ∷ elements) within falls =
-    let below = falls.0 in
-    let first : in_word x.number ≡ x.number = omega (arith, within, below) in
-    let rest = in_words x.number elements (omega (arith, within, below)) falls.1 in
-    λ i. first i ∷ rest i
-
-words_inside : (o : Option ℕ) (elements : List Element) → map (λ (e : Element). in_word e.number) elements ≡ map (λ (e : Element). e.number) elements
-    → map (λ (e : Element). in_word e.number) (inner_part o elements) ≡ map (λ (e : Element). e.number) (inner_part o elements)
-words_inside None elements same = refl
-words_inside (Some k) elements same =
-    sym (take-map (λ (e : Element). in_word e.number) (k + 1) elements) ∙ (ap (take (k + 1)) same ∙ take-map (λ (e : Element). e.number) (k + 1) elements)
-
--- those that an end tag closes
-closed_numbers : DocumentsAreOrdered → (s : Selectors) (esi : Bool) (events : List Event) → length events ≤ 2 ^ 64 - 1 → (name : List ℕ)
-    → numbers_closed (document s esi events).open_elements name ≡ closed name (document s esi events)
-closed_numbers ordered s esi events few name =
-    let d = document s esi events in
-    let count = events_counted s esi empty events in
-    let within : d.events ≤ 2 ^ 64 - 1 = omega (arith, few, count) in
-    ap reverse (words_inside (index_of name d.open_elements) d.open_elements (in_words d.events d.open_elements within (ordered s esi events).numbers))
-
--- 2. What is written
+-- 1. What is written
 
 end_text : (p : Selectors) (s : Script) (d : Document) (name : List ℕ) → lines_of ((codes "end" ++ 9 ∷ comma_list (map decimal (closed name d))) ∷ []) ≡ text_for p s d (End name)
 end_text p s d name = ap (λ lines. lines_of ((codes "end" ++ 9 ∷ comma_list (map decimal (closed name d))) ∷ lines)) (sym (no_reasons s))
@@ -71,7 +46,7 @@ pub end_written : (t0 t1 t2 list : List ℕ) → t1 ≡ t0 ++ 101 ∷ 110 ∷ 10
 end_written t0 t1 t2 list h1 h2 =
     then_more t0 t1 t2 (101 ∷ 110 ∷ 100 ∷ 9 ∷ []) (list ++ 10 ∷ []) h1 h2 ∙ ap (λ (more : List ℕ). t0 ++ (101 ∷ 110 ∷ 100 ∷ 9 ∷ more)) (sym (append-nil (list ++ 10 ∷ [])))
 
--- 3. One end tag more of a script
+-- 2. One end tag more of a script
 
 documents_alike : ItemsAnswerAsTexts → (p : Selectors) (s : Script) (ast : Ast) (o : Option Explained) → HasSelectors p s ast o → (events : List Event) → document p s.esi events ≡ document (selectors ast) s.esi events
 documents_alike items p s ast None has events = ap (λ (q : Selectors). document q s.esi events) has.1

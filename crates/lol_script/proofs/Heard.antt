@@ -6,9 +6,9 @@ use Rattle.lol_base.specs.BoolLaws.{and-right_false}
 use Rattle.lol_base.specs.StartTags.{StartTag}
 use Rattle.lol_laws.specs.AskedRuns.{AreToldFrom, IsToldOf, bare_tag}
 use Rattle.lol_program.specs.Paths.{Selectors}
-use Rattle.lol_vm.specs.Answers.{after, asks}
-use Rattle.lol_vm.specs.Documents.{Document, element_of}
-use Rattle.lol_vm.specs.Events.{Event, Start, End}
+use Rattle.lol_machine.specs.Answers.{after, asks}
+use Rattle.lol_machine.specs.Documents.{Document, element_of}
+use Rattle.lol_machine.specs.Events.{Event, Start, End}
 use Rattle.lol_script.specs.Answering.{told_event, told_tag}
 
 -- it is told each as it is, or of one that isn't finished the name and the namespace

@@ -10,7 +10,6 @@ pub mod Numbers
 pub mod Outlines
 pub mod ReadOn
 pub mod Reasons
-pub mod RefusedLater
 pub mod ScriptLemmas
 pub mod SelectLineLemmas
 pub mod StartTags

@@ -6,9 +6,9 @@ use Rattle.std.specs.List.{slice_split}
 use Rattle.std.specs.Io.KnownBytes.{IsAtEnd}
 use Rattle.std.proofs.KnownBytes.{Consumes-trans}
 use Rattle.std.proofs.lemmas.List.{append_assoc, append-nil}
-use Rattle.lol_vm.specs.Documents.{empty}
-use Rattle.lol_vm.specs.Events.{Event}
-use Rattle.lol_vm.specs.Refusals.{refused}
+use Rattle.lol_machine.specs.Documents.{empty}
+use Rattle.lol_machine.specs.Events.{Event}
+use Rattle.lol_machine.specs.Refusals.{refused}
 use Rattle.lol_script.specs.Devices.{IsReadFault, Reads, ReadsToEnd, device_of, failures_of}
 use Rattle.lol_script.specs.ReadLines.{GoesOn, ReadLines, cut_at, is_line_feed, later_lines, next_line}
 use Rattle.lol_script.specs.Readings.{IsBad, IsReadTo, IsStop, Stops}

@@ -9,7 +9,7 @@ use Rattle.lol_program.specs.Conditions.{pairs_under}
 use Rattle.lol_reasons.specs.Explanations.{Text}
 use Rattle.lol_program.specs.Sets.{Joins, SameMembers}
 use Rattle.lol_base.specs.MemberLaws.{contains-append}
-use Rattle.lol_vm.specs.Events.{Event}
+use Rattle.lol_machine.specs.Events.{Event}
 use Rattle.lol_script.specs.Script.{Line, line_at}
 use Rattle.lol_script.specs.Scripts as scripts
 use Rattle.lol_script.specs.Scripts.{Script, pairs_in, texts_in, unless_begun, with_bytes, with_meaning}

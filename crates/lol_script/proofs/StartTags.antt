@@ -19,11 +19,12 @@ use Rattle.lol_program.specs.Paths.{Selectors}
 use Rattle.lol_program.specs.declared.ast.Ast.{Ast}
 use Rattle.lol_reasons.specs.Explanations.{Reason, added_by, explanations, reasons_at}
 use Rattle.lol_reasons.specs.NumberingLaws.{reporting}
-use Rattle.lol_vm.specs.Answers.{Answer, Match, Started, Dropped, answer, asks, attribute_tries, document, is_dropped, name_tries, report}
-use Rattle.lol_vm.specs.Documents.{Document, element_of}
-use Rattle.lol_vm.specs.Events.{Event, Start, has_content}
-use Rattle.lol_vm.specs.Refusals.{Cause, refused}
-use Rattle.lol_vm.specs.Views.{match_of, selectors}
+use Rattle.lol_machine.specs.Answers.{Answer, Match, Started, Dropped, answer, asks, attribute_tries, document, is_dropped, name_tries, report}
+use Rattle.lol_machine.specs.Documents.{Document, element_of}
+use Rattle.lol_machine.specs.Events.{Event, Start, has_content}
+use Rattle.lol_machine.specs.RefusalLaws.{fits_on, stops_at}
+use Rattle.lol_machine.specs.Refusals.{Cause, refused}
+use Rattle.lol_machine.specs.Views.{match_of, selectors}
 use Rattle.lol_script.specs.Answering.{Answers, GoesOn, HasSelectors, Hears, IsStarted, IsStopped, answer_with, told_event, told_tag}
 use Rattle.lol_script.specs.Explaining.{Explains, IsReasoned, lines_by}
 use Rattle.lol_script.specs.AnswerTexts.{started_text, tries_shown}
@@ -34,7 +35,6 @@ use Rattle.lol_script.specs.declared.script_run.Outcome.{Outcome}
 use Rattle.lol_script.specs.declared.script_run.Outcome.TheVariants as outcomes
 use Rattle.lol_script.specs.declared.script_run.ScriptRun.{ScriptRun}
 use Rattle.lol_script.proofs.AnswerLines.{answered_more, no_reasons, refused_ends}
-use Rattle.lol_script.proofs.RefusedLater.{fits_on, stops_at}
 
 abbrev pub M : Type 0
 M = Matching (Unit {0})

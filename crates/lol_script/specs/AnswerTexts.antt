@@ -3,7 +3,7 @@ use Rattle.std.specs.Prelude.{◌≡◌, ℕ, Bool, true, List, [], ◌∷◌, �
 use Rattle.lol_base.specs.CodePoints.{tab}
 use Rattle.lol_instructions.specs.Tries.{names_counted, attributes_counted}
 use Rattle.lol_instructions.specs.declared.tries.Tries.{Tries}
-use Rattle.lol_vm.specs.Answers.{Match}
+use Rattle.lol_machine.specs.Answers.{Match}
 use Rattle.lol_script.specs.Output.{comma_list, shown_match, tries_field}
 use Rattle.lol_script.specs.declared.output.ClosedList.{ClosedList}
 use Rattle.lol_script.specs.declared.output.Filling.{Filling}

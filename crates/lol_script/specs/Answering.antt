@@ -14,11 +14,11 @@ use Rattle.lol_matcher.specs.declared.error.MatcherError.TheVariants.{MemoryLimi
 use Rattle.lol_program.specs.Asts.{is_with_rows}
 use Rattle.lol_program.specs.Paths.{Selectors}
 use Rattle.lol_program.specs.declared.ast.Ast.{Ast}
-use Rattle.lol_vm.specs.Answers.{Answer, Started, Dropped, answer, document}
-use Rattle.lol_vm.specs.Documents.{empty, index_of, inner_part}
-use Rattle.lol_vm.specs.Events.{Event, Start, End, has_content}
-use Rattle.lol_vm.specs.Refusals.{Cause, Limit, Counter, refused}
-use Rattle.lol_vm.specs.Views.{match_of, selectors}
+use Rattle.lol_machine.specs.Answers.{Answer, Started, Dropped, answer, document}
+use Rattle.lol_machine.specs.Documents.{empty, index_of, inner_part}
+use Rattle.lol_machine.specs.Events.{Event, Start, End, has_content}
+use Rattle.lol_machine.specs.Refusals.{Cause, Limit, Counter, refused}
+use Rattle.lol_machine.specs.Views.{match_of, selectors}
 use Rattle.lol_script.specs.Devices.{ReadsToEnd}
 use Rattle.lol_script.specs.Explaining.{Explains}
 use Rattle.lol_script.specs.ReadLines.{ReadLines}

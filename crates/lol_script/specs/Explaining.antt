@@ -9,9 +9,9 @@ use Rattle.lol_matcher.specs.Told.{Matching}
 use Rattle.lol_program.specs.declared.ast.Ast.{Ast}
 use Rattle.lol_reasons.specs.Explanations.{Reason, added_by}
 use Rattle.lol_reasons.specs.Numbered.{HoldsItems}
-use Rattle.lol_vm.specs.Answers.{Match, Started}
-use Rattle.lol_vm.specs.ReportRoom.{HoldsEachReport}
-use Rattle.lol_vm.specs.Views.{match_of, selectors}
+use Rattle.lol_machine.specs.Answers.{Match, Started}
+use Rattle.lol_machine.specs.ReportRoom.{HoldsEachReport}
+use Rattle.lol_machine.specs.Views.{match_of, selectors}
 use Rattle.lol_script.specs.AnswerTexts.{started_text}
 use Rattle.lol_script.specs.Output.{lines_of, shown_answer, shown_reason}
 use Rattle.lol_script.specs.Scripts.{Script, texts_in}

@@ -7,7 +7,7 @@ use Rattle.lol_base.specs.CodePoints.{tab, line_feed}
 use Rattle.lol_css.specs.declared.error.SelectorError.{SelectorError}
 use Rattle.lol_css.specs.declared.error.SelectorError.TheVariants.{UnexpectedToken, UnexpectedEnd, MissingAttributeName, EmptySelector, DanglingCombinator, UnexpectedTokenInAttribute, UnsupportedPseudoClassOrElement, NestedNegation, NamespacedSelector, InvalidClassName, EmptyNegation, UnsupportedCombinator, UnsupportedSyntax, Memory}
 use Rattle.lol_reasons.specs.Explanations.{Reason}
-use Rattle.lol_vm.specs.Answers.{Match, Answer, Started, Dropped, Ended}
+use Rattle.lol_machine.specs.Answers.{Match, Answer, Started, Dropped, Ended}
 use Rattle.lol_script.specs.declared.bad_line.BadLine.{BadLine}
 use Rattle.lol_script.specs.declared.bad_line.Cause.{Cause}
 use Rattle.lol_script.specs.declared.bad_line.Cause.TheVariants.{Form, Selector}

@@ -8,11 +8,11 @@ use Rattle.lol_css.specs.declared.error.SelectorError.{SelectorError}
 use Rattle.lol_program.specs.Paths.{Path, Selectors}
 use Rattle.lol_program.specs.Nodes.{selectors_of}
 use Rattle.lol_program.specs.Conditions.{pairs_under}
-use Rattle.lol_vm.specs.Events.{Event, Start, End}
-use Rattle.lol_vm.specs.Answers.{after, answer}
-use Rattle.lol_vm.specs.Documents.{Document, empty}
+use Rattle.lol_machine.specs.Events.{Event, Start, End}
+use Rattle.lol_machine.specs.Answers.{after, answer}
+use Rattle.lol_machine.specs.Documents.{Document, empty}
 use Rattle.lol_reasons.specs.Explanations.{Reason, Text, added_by, reasons_at}
-use Rattle.lol_vm.specs.Refusals.{Cause, Limit, Counter, refused}
+use Rattle.lol_machine.specs.Refusals.{Cause, Limit, Counter, refused}
 use Rattle.lol_script.specs.Script.{Line, SetLimit, TurnEsiOn, ShowTries, ShowReasons, MakeRows, Select, StartLine, EndLine, line_at}
 use Rattle.lol_script.specs.Output.{shown_answer, shown_reason, lines_of, bad_line}
 use Rattle.lol_script.specs.declared.bad_line.BadLine.{BadLine}

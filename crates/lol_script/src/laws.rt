@@ -2,7 +2,7 @@
 
 ghost use Rattle.std.specs.Prelude.{◌≡◌, [], ◌∷◌, ◌++◌, Some, None, true, false, codes};
 ghost use Rattle.lol_base.specs.declared.namespace.Namespace.TheVariants.{Html, Svg};
-ghost use Rattle.lol_vm.specs.Refusals.{Limit, Counter};
+ghost use Rattle.lol_machine.specs.Refusals.{Limit, Counter};
 ghost use Rattle.lol_script.specs.Script.{line_at, number_up_to, SetLimit, TurnEsiOn, ShowTries, ShowReasons, MakeRows, Select, EndLine};
 ghost use Rattle.lol_script.specs.Scripts.{output, shown_cause};
 ghost use Rattle.lol_script.specs.WorkedRows.{attribute, start_line, written};

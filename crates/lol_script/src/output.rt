@@ -5,7 +5,7 @@ ghost use Rattle.std.specs.Str.{byte};
 ghost use Rattle.lol_base.specs.CodePoints.{line_feed};
 ghost use Rattle.lol_instructions.specs.Tries.{names_counted, attributes_counted};
 ghost use Rattle.lol_reasons.specs.Numbered.{reason_shown};
-ghost use Rattle.lol_vm.specs.Views.{match_of};
+ghost use Rattle.lol_machine.specs.Views.{match_of};
 ghost use Rattle.lol_script.specs.AnswerTexts.{HasListed, HasListedAs, end_of_start, started_text};
 ghost use Rattle.lol_script.specs.Output.{comma_list, shown_match, shown_reason, tries_field};
 

@@ -4,8 +4,8 @@ ghost use Rattle.std.specs.Prelude.{◌≡◌, ◌∷◌, ◌++◌, [], List, �
 ghost use Rattle.lol_instructions.specs.Tries.{attributes_counted, names_counted};
 ghost use Rattle.lol_matcher.specs.Answering.{with_ended};
 ghost use Rattle.lol_program.specs.Asts.{is_with_rows};
-ghost use Rattle.lol_vm.specs.Events.{Start, End};
-ghost use Rattle.lol_vm.specs.Refusals.{Cause};
+ghost use Rattle.lol_machine.specs.Events.{Start, End};
+ghost use Rattle.lol_machine.specs.Refusals.{Cause};
 ghost use Rattle.lol_script.specs.Answering.{Answers, ForAnswers, HasTags, IsCauseOf, IsNewMatcher, IsStarted, IsStopped, IsTagIfFirst, numbers_closed, told_tag};
 ghost use Rattle.lol_script.specs.AnswerTexts.{HasListed, tries_shown};
 ghost use Rattle.lol_script.specs.Explaining.{Explains, IsReasoned};
@@ -25,10 +25,10 @@ use crate::select_lines::SelectLines;
 use crate::settings::{Settings, Stop, malformed, with_rows_from};
 use crate::tags::handed_over;
 use lol_base::AttributeBuffer;
+use lol_machine::machine_laws::documents_are_ordered;
 use lol_matcher::laws::{calls_answer_alike, items_answer_as_texts, told_is_explained_alike};
 use lol_matcher::{Matcher, MatcherError, OpenElement, Started, Tries};
 use lol_program::Ast;
-use lol_vm::machine_laws::documents_are_ordered;
 use std::alloc::{AllocError, Global};
 use std::mem;
 

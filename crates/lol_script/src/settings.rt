@@ -4,7 +4,7 @@ ghost use Rattle.std.specs.Prelude.{◌≡◌, ◌<◌, ◌∷◌, [], None, fal
 ghost use Rattle.std.specs.Bool.{MatchBool};
 ghost use Rattle.lol_css.specs.Accepting.{accept};
 ghost use Rattle.lol_program.specs.Asts.{is_with_rows, nodes_of};
-ghost use Rattle.lol_vm.specs.Views.{selectors};
+ghost use Rattle.lol_machine.specs.Views.{selectors};
 ghost use Rattle.lol_script.specs.Devices.{ReadsToEnd, failures_of};
 ghost use Rattle.lol_script.specs.Lines.{set_by};
 ghost use Rattle.lol_script.specs.ReadLines.{no_lines};

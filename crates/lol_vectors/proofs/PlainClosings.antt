@@ -7,7 +7,7 @@ use Rattle.lol_base.specs.ListLaws.{reverse-map}
 use Rattle.lol_base.specs.MemberLaws.{map-map}
 use Rattle.lol_base.specs.Names.{same_name}
 use Rattle.lol_instructions.specs.Tests.{Element}
-use Rattle.lol_vm.specs.Documents.{closed, after_end, index_of, inner_part, outer_part}
+use Rattle.lol_machine.specs.Documents.{closed, after_end, index_of, inner_part, outer_part}
 use Rattle.lol_vectors.specs.PlainElements.{element_shown}
 use Rattle.lol_vectors.specs.Plain.{child_shown, document_shown}
 use Rattle.lol_vectors.specs.declared.plain_document.PlainDocument.{PlainDocument}

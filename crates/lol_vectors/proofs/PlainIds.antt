@@ -11,9 +11,9 @@ use Rattle.lol_memory.specs.AscendingLaws.{ascending_rises}
 use Rattle.lol_program.specs.IdSetLaws.{listed_if_held, held}
 use Rattle.lol_instructions.specs.Tests.{Element}
 use Rattle.lol_program.specs.Paths.{Path}
-use Rattle.lol_vm.specs.Matching.{matches}
-use Rattle.lol_vm.specs.Answers.{matching_ids}
-use Rattle.lol_vm.specs.ReportLaws.{among_matching_ids, matching_ids_among, matching_ids_ascend}
+use Rattle.lol_machine.specs.Matching.{matches}
+use Rattle.lol_machine.specs.Answers.{matching_ids}
+use Rattle.lol_machine.specs.ReportLaws.{among_matching_ids, matching_ids_among, matching_ids_ascend}
 
 among_one : (path : Path) (ids : List ℕ) (id : ℕ) → Among ids id → Among {T = Path × ℕ} (map (λ (n : ℕ). (path, n)) ids) (path, id)
 among_one path [] id h = absurd h

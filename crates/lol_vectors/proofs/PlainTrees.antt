@@ -13,12 +13,12 @@ use Rattle.lol_instructions.specs.Tests.{Element, is_html}
 use Rattle.lol_instructions.specs.Compounds.{Compound}
 use Rattle.lol_program.specs.Paths.{Path, First, Then, Selectors}
 use Rattle.lol_program.specs.Forest.{Forest, none, more, tops, below, nodes_in, pairs_in}
-use Rattle.lol_vm.specs.Events.{Event}
-use Rattle.lol_vm.specs.Documents.{empty}
-use Rattle.lol_vm.specs.AnswerLaws.{same_answers}
-use Rattle.lol_vm.specs.Answers.{matching_ids, needs_attributes, asks, answers, is_tried}
-use Rattle.lol_vm.specs.KeyTries.{is_left, is_left_open, node_keys}
-use Rattle.lol_vm.specs.Matching.{left_matches}
+use Rattle.lol_machine.specs.Events.{Event}
+use Rattle.lol_machine.specs.Documents.{empty}
+use Rattle.lol_machine.specs.AnswerLaws.{same_answers}
+use Rattle.lol_machine.specs.Answers.{matching_ids, needs_attributes, asks, answers, is_tried}
+use Rattle.lol_machine.specs.KeyTries.{is_left, is_left_open, node_keys}
+use Rattle.lol_machine.specs.Matching.{left_matches}
 use Rattle.lol_vectors.specs.PlainNodes.{nodes_listed, pairs_at, selectors_listed}
 
 -- 1. Counts

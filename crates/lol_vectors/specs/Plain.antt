@@ -2,11 +2,11 @@
 use Rattle.std.specs.Prelude.{ℕ, ◌+◌, Bool, not, ◌&&◌, if◌then◌else◌, List, ◌∷◌, map}
 use Rattle.lol_instructions.specs.Tests.{Element}
 use Rattle.lol_program.specs.Paths.{Selectors}
-use Rattle.lol_vm.specs.Events.{has_content}
-use Rattle.lol_vm.specs.Documents.{Child, Document, parent_of}
-use Rattle.lol_vm.specs.Answers as answers
-use Rattle.lol_vm.specs.Answers.{Answer, report, asks, is_dropped, name_tries, attribute_tries}
-use Rattle.lol_vm.specs.Views.{match_of}
+use Rattle.lol_machine.specs.Events.{has_content}
+use Rattle.lol_machine.specs.Documents.{Child, Document, parent_of}
+use Rattle.lol_machine.specs.Answers as answers
+use Rattle.lol_machine.specs.Answers.{Answer, report, asks, is_dropped, name_tries, attribute_tries}
+use Rattle.lol_machine.specs.Views.{match_of}
 use Rattle.lol_vectors.specs.PlainElements.{element_shown}
 use Rattle.lol_vectors.specs.declared.plain_document.PlainChild.{PlainChild}
 use Rattle.lol_vectors.specs.declared.plain_document.PlainDocument.{PlainDocument}

@@ -3,7 +3,7 @@ use Rattle.std.specs.Prelude.{Bool, ◌&&◌, List}
 use Rattle.lol_instructions.specs.Compounds.{by_names, is_open}
 use Rattle.lol_instructions.specs.Tests.{Element}
 use Rattle.lol_program.specs.Paths.{Path, last_compound}
-use Rattle.lol_vm.specs.Matching.{left_matches}
+use Rattle.lol_machine.specs.Matching.{left_matches}
 
 -- whether a node is tried for an element inside these ones
 abbrev pub is_tried_in : List Element → Path → Bool

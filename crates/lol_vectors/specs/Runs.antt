@@ -9,8 +9,8 @@ use Rattle.lol_css.specs.declared.error.SelectorError.{SelectorError}
 use Rattle.lol_program.specs.Paths.{Path, Selectors}
 use Rattle.lol_program.specs.Nodes.{selectors_of}
 use Rattle.lol_program.specs.Conditions.{pairs_under}
-use Rattle.lol_vm.specs.Events.{Event, Start}
-use Rattle.lol_vm.specs.Answers.{Answer, Started, Dropped, Ended, Match, answers}
+use Rattle.lol_machine.specs.Events.{Event, Start}
+use Rattle.lol_machine.specs.Answers.{Answer, Started, Dropped, Ended, Match, answers}
 
 -- 1. Selectors
 

@@ -1,8 +1,8 @@
 -- Worked rows: elements of HTML that never have content, and names near theirs (HTML Standard, "Elements", 13.1.2, with the obsolete names
 -- that its parser closes at once, 13.2.6.4.7; ESI Language Specification 1.0, 3.1 and 3.7).
 use Rattle.std.specs.Prelude.{ℕ, ◌≡◌, Bool, List, [], ◌∷◌, map, codes}
-use Rattle.lol_vm.specs.Events.{Event, End}
-use Rattle.lol_vm.specs.Answers.{Answer, Started, Ended, answers}
+use Rattle.lol_machine.specs.Events.{Event, End}
+use Rattle.lol_machine.specs.Answers.{Answer, Started, Ended, answers}
 use Rattle.lol_vectors.specs.Runs.{looked_for, with_content, without_content}
 
 -- Each name in lower case, in capitals, and mixed.

@@ -13,9 +13,9 @@ use Rattle.lol_program.specs.Paths.{Path, First, Then}
 use Rattle.lol_instructions.specs.declared.name_value.NameValue.{NameValue}
 use Rattle.lol_instructions.specs.declared.name_value.NameValue.TheVariants.{True, False, Open}
 use Rattle.lol_program.specs.Nodes.{selectors_of}
-use Rattle.lol_vm.specs.Events.{Event, Start, End}
-use Rattle.lol_vm.specs.Answers.{Answer, Started, Dropped, Ended, Match, answers}
-use Rattle.lol_vm.specs.Refusals.{Cause, refused}
+use Rattle.lol_machine.specs.Events.{Event, Start, End}
+use Rattle.lol_machine.specs.Answers.{Answer, Started, Dropped, Ended, Match, answers}
+use Rattle.lol_machine.specs.Refusals.{Cause, refused}
 
 -- Selectors under ids, tags, and what is answered to each of them.
 pub record WorkedRun : Type 0 where

@@ -3,11 +3,11 @@
 use Rattle.std.specs.Prelude.{ℕ, ◌≡◌, Bool, false, if◌then◌else◌, List, [], ◌∷◌, ◌++◌, map, replicate, length, max, Option, Some, None, codes}
 use Rattle.lol_base.specs.declared.namespace.Namespace.TheVariants.{Html, Svg}
 use Rattle.lol_program.specs.Paths.{Selectors}
-use Rattle.lol_vm.specs.Events.{Event, Start, End}
+use Rattle.lol_machine.specs.Events.{Event, Start, End}
 use Rattle.lol_base.specs.StartTags.{StartTag}
-use Rattle.lol_vm.specs.Documents.{Document, element_of}
-use Rattle.lol_vm.specs.Answers.{after, answers}
-use Rattle.lol_vm.specs.Refusals.{Allowance, Cause, Limit, Counter, exceeds, refusal, refused}
+use Rattle.lol_machine.specs.Documents.{Document, element_of}
+use Rattle.lol_machine.specs.Answers.{after, answers}
+use Rattle.lol_machine.specs.Refusals.{Allowance, Cause, Limit, Counter, exceeds, refusal, refused}
 use Rattle.lol_vectors.specs.Runs.{looked_for, start, unfinished_in, was_asked, told}
 
 abbrev pub tags : List (List ℕ) → List Event

@@ -2,9 +2,10 @@
 
 ghost use Rattle.std.specs.Prelude.{ℕ, ◌≡◌, ◌+◌, false, IfOk, OnOk, All, map, count_by};
 ghost use Rattle.lol_memory.specs.Ids.{ascending};
-ghost use Rattle.lol_vm.specs.Answers as answers;
-ghost use Rattle.lol_vm.specs.Laws.{in_mode};
-ghost use Rattle.lol_vm.specs.Views.{HasRangesInside, event_of, match_of, selectors};
+ghost use Rattle.lol_machine.specs.Answers as answers;
+ghost use Rattle.lol_machine.specs.Laws.{in_mode};
+ghost use Rattle.lol_machine.specs.Views.{match_of, selectors};
+ghost use Rattle.lol_vm.specs.TagEvents.{HasRangesInside, event_of};
 ghost use Rattle.lol_vectors.specs.PlainElements.{element_shown};
 ghost use Rattle.lol_vectors.specs.PlainNodes.{pairs_of, paths_of, selectors_shown};
 ghost use Rattle.lol_vectors.specs.PlainTries.{is_tried_in, is_tried_open_in};

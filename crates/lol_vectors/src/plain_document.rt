@@ -5,9 +5,9 @@ ghost use Rattle.std.specs.List.{list_any};
 ghost use Rattle.std.specs.Str.{bytes_eq};
 ghost use Rattle.lol_base.specs.StartTags.{RangesAreInside};
 ghost use Rattle.lol_base.specs.Names as names;
-ghost use Rattle.lol_vm.specs.Events.{has_content_in};
-ghost use Rattle.lol_vm.specs.Documents as documents;
-ghost use Rattle.lol_vm.specs.Views.{tag_of};
+ghost use Rattle.lol_machine.specs.Events.{has_content_in};
+ghost use Rattle.lol_machine.specs.Documents as documents;
+ghost use Rattle.lol_machine.specs.Views.{tag_of};
 ghost use Rattle.lol_vectors.specs.PlainElements.{tag_shown, element_shown};
 ghost use Rattle.lol_vectors.specs.Plain.{child_shown, document_shown};
 

@@ -3,8 +3,8 @@
 ghost use Rattle.std.specs.Prelude.{◌≡◌, ◌++◌, ◌≤◌, IfOk, OnOk, [], ◌∷◌, map, length};
 ghost use Rattle.lol_memory.specs.Ids.{ascending};
 ghost use Rattle.lol_program.specs.Views.{node_of, linked, forest_of};
-ghost use Rattle.lol_vm.specs.Answers as answers;
-ghost use Rattle.lol_vm.specs.Matching.{matches, left_matches, step_reaches};
+ghost use Rattle.lol_machine.specs.Answers as answers;
+ghost use Rattle.lol_machine.specs.Matching.{matches, left_matches, step_reaches};
 ghost use Rattle.lol_vectors.specs.PlainElements.{element_shown};
 ghost use Rattle.lol_vectors.specs.PlainNodes.{path_shown, path_to, node_shown, nodes_listed, pairs_of};
 

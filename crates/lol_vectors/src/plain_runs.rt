@@ -2,7 +2,7 @@
 //! is found.
 
 ghost use Rattle.std.specs.Prelude.{All};
-ghost use Rattle.lol_vm.specs.Views.{HasRangesInside};
+ghost use Rattle.lol_vm.specs.TagEvents.{HasRangesInside};
 
 use crate::plain::{PlainAnswer, plain_answers};
 use crate::tag_words::events_of;

@@ -4,7 +4,7 @@ ghost use Rattle.std.specs.Prelude.{◌≡◌, ◌&&◌, IfOk, map, count_by};
 ghost use Rattle.lol_instructions.specs.Compounds.{is_open};
 ghost use Rattle.lol_instructions.specs.Compounds as compounds;
 ghost use Rattle.lol_program.specs.Paths.{last_compound};
-ghost use Rattle.lol_vm.specs.Matching.{left_matches};
+ghost use Rattle.lol_machine.specs.Matching.{left_matches};
 ghost use Rattle.lol_vectors.specs.PlainElements.{element_shown};
 ghost use Rattle.lol_vectors.specs.PlainNodes.{path_shown, paths_of};
 ghost use Rattle.lol_vectors.specs.PlainTries.{is_tried_in, is_tried_open_in};

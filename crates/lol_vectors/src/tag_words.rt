@@ -1,7 +1,7 @@
 //! Events of tags as words.
 
 ghost use Rattle.std.specs.Prelude.{All, IfOk};
-ghost use Rattle.lol_vm.specs.Views.{HasRangesInside};
+ghost use Rattle.lol_vm.specs.TagEvents.{HasRangesInside};
 
 use lol_base::Attributes;
 use lol_vm::TagEvent;

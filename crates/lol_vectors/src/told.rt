@@ -1,7 +1,7 @@
 //! What the machine answers to tags as words: what the rows beside this file are told with.
 
 ghost use Rattle.std.specs.Prelude.{All};
-ghost use Rattle.lol_vm.specs.Views.{HasRangesInside};
+ghost use Rattle.lol_vm.specs.TagEvents.{HasRangesInside};
 
 use crate::tag_words::events_of;
 use lol_base::Attributes;

@@ -3,7 +3,7 @@
 ghost use Rattle.std.specs.Prelude.{◌≡◌, ◌∷◌, [], Some, None, true, false, codes};
 ghost use Rattle.lol_instructions.specs.Tests.{HasAttribute, attribute_holds};
 ghost use Rattle.lol_memory.specs.Slots.{slots};
-ghost use Rattle.lol_vm.specs.Refusals.{Limit};
+ghost use Rattle.lol_machine.specs.Refusals.{Limit};
 ghost use Rattle.lol_vectors.specs.WorkedAnswers.{Holds, refused_at, descendant_and_child, class_above, nested_divs, not_a_compound, not_neither, neither_class_nor_name, not_an_empty_substring, nothing_and_anything, some_compound, none_of_some, child_of_some, negative_step, of_mathml, AreValues, all_stand, has_id, has_class, element_with_attributes, written, unwritten, second_child, second_span, caseless_in_html, empty_operand, esi_names, dropped_tag, self_closing_tag, links};
 
 /// Answers to some tags.

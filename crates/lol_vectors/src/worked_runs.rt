@@ -3,7 +3,7 @@
 ghost use Rattle.std.specs.Prelude.{◌≡◌, [], ◌∷◌, ◌++◌, replicate, Some, None, true, false};
 ghost use Rattle.lol_instructions.specs.Counters.{full_count};
 ghost use Rattle.lol_stack.specs.Levels.{one_more};
-ghost use Rattle.lol_vm.specs.Refusals.{Limit, Counter, greatest_count};
+ghost use Rattle.lol_machine.specs.Refusals.{Limit, Counter, greatest_count};
 ghost use Rattle.lol_vm.specs.RunRefusals.{StopsFor, allowance_of};
 ghost use Rattle.lol_vm.specs.declared.events.RunCause.TheVariants.{MemoryLimitExceeded, CounterFull, Memory};
 ghost use Rattle.lol_memory.specs.Slots.{slots};

@@ -2,9 +2,9 @@
 use Rattle.std.specs.Prelude.{◌≡◌, Bool, List, map}
 use Rattle.lol_program.specs.Paths.{Selectors}
 use Rattle.lol_stack.specs.Calls.{IsCalledAtEach}
-use Rattle.lol_vm.specs.Answers.{answers}
-use Rattle.lol_vm.specs.Events.{Event}
-use Rattle.lol_vm.specs.Views.{answer_of}
+use Rattle.lol_machine.specs.Answers.{answers}
+use Rattle.lol_machine.specs.Events.{Event}
+use Rattle.lol_vm.specs.TagEvents.{answer_of}
 use Rattle.lol_vm.specs.declared.events.TagReport.{TagReport}
 
 -- The handler was called with a report of each event, in order, and they are the answers.

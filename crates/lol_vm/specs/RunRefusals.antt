@@ -3,9 +3,9 @@ use Rattle.std.specs.Prelude.{ℕ, ◌≡◌, ◌<◌, ◌≤◌, ◌⊎◌, Boo
 use Rattle.lol_base.specs.StartTags.{StartTag}
 use Rattle.lol_memory.specs.Limiter.{Limiter}
 use Rattle.lol_program.specs.Paths.{Selectors}
-use Rattle.lol_vm.specs.Events.{Event, Start}
-use Rattle.lol_vm.specs.FreeTags.{RunsWithoutMemory}
-use Rattle.lol_vm.specs.Refusals.{Allowance, Cause, Limit, Counter}
+use Rattle.lol_machine.specs.Events.{Event, Start}
+use Rattle.lol_machine.specs.FreeTags.{RunsWithoutMemory}
+use Rattle.lol_machine.specs.Refusals.{Allowance, Cause, Limit, Counter}
 use Rattle.lol_vm.specs.declared.events.RunCause.{RunCause}
 use Rattle.lol_vm.specs.declared.events.RunCause.TheVariants.{MemoryLimitExceeded, CounterFull, Memory}
 use Rattle.lol_vm.specs.declared.events.RunRefusal.{RunRefusal}

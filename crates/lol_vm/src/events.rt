@@ -21,15 +21,6 @@ pub enum TagEvent<'i> {
     },
 }
 
-/// What became of a start tag. (Not in lol_html.)
-#[derive(Clone, Copy)]
-pub enum StartOutcome {
-    /// It was reported; its attributes were asked for or not.
-    Reported { asked: bool },
-    /// Its attributes were asked for and not handed over.
-    Dropped,
-}
-
 /// What is answered to a tag. (Not in lol_html.)
 #[derive(Debug, Drop)]
 pub enum TagReport {

@@ -1,20 +1,12 @@
-//! The selector matching machine: which selectors match each start tag of a document, as its tags come.
+//! The selector matching machine, and what a whole list of tags is answered with.
 #![tactic(auto)]
 
 mod collected;
-mod error;
-mod event_run;
 mod events;
-pub mod laws;
-pub mod machine_laws;
 mod run;
-mod vm;
-pub mod vm_laws;
 
 pub use collected::Collected;
-pub use error::{AuxStartTagInfoRequest, StartTagError, VmError};
-pub use event_run::EventRun;
-pub use events::{RunCause, RunRefusal, RunStop, StartOutcome, TagEvent, TagReport};
+pub use events::{RunCause, RunRefusal, RunStop, TagEvent, TagReport};
 pub use lol_base::{
     AttributeBuffer, AttributeOutline, Attributes, AuxStartTagInfo, Bytes, LocalName, Namespace,
     Range, Tag,
@@ -23,6 +15,10 @@ pub use lol_css::{
     AttrSelectorOperator, CaseSensitivity, Combinator, ComplexSelector, Compound, CssString,
     ErrorLocation, NthChild, ParsedCaseSensitivity, Selector, SelectorError, SelectorList,
     SelectorsParser, SimpleSelector,
+};
+pub use lol_machine::{
+    AuxStartTagInfoRequest, SelectorMatchingVm, StartTagError, VmError, VmOf, laws, machine_laws,
+    vm_laws,
 };
 pub use lol_memory::{
     DenseHashSet, DenseHashSetIter, Drain, LimitedVec, MatchId, MatchInfo,
@@ -42,4 +38,3 @@ pub use lol_stack::{
     TypedChildCounterMap,
 };
 pub use run::{match_each_event, match_events};
-pub use vm::{SelectorMatchingVm, VmOf};

@@ -1,25 +1,27 @@
 //! A whole run.
 
-ghost use Rattle.std.specs.Prelude.{◌≡◌, ◌≤◌, ◌<◌, ◌++◌, ◌∷◌, ◌⊎◌, [], List, ℕ, IfOk, OnOk, IfErr, OnErr, IfSome, None, map, length, take, All};
+ghost use Rattle.std.specs.Prelude.{◌≡◌, ◌≤◌, ◌<◌, ◌⊎◌, [], IfOk, OnOk, IfErr, None, map, true, length, take, All};
 ghost use Rattle.lol_base.specs.StartTags.{RangesAreInside};
-ghost use Rattle.lol_vm.specs.Answers.{answers};
+ghost use Rattle.lol_machine.specs.Answers.{answers};
+ghost use Rattle.lol_machine.specs.Events.{Start, End};
+ghost use Rattle.lol_machine.specs.Refusals.{refused};
+ghost use Rattle.lol_machine.specs.Views.{selectors, tag_of};
+ghost use Rattle.lol_matcher.specs.Refusing.{allowance};
 ghost use Rattle.lol_vm.specs.Collecting.{Collects};
-ghost use Rattle.lol_vm.specs.EventRuns.{ForEndInRun, ForNewRun, ForRunOfEvents, ForTagInRun, Goes, machine_of};
-ghost use Rattle.lol_vm.specs.Events.{Start, End};
-ghost use Rattle.lol_vm.specs.Follows.{IsCharged, Stops};
 ghost use Rattle.lol_vm.specs.Handlers.{IsCalledWithAnswers};
-ghost use Rattle.lol_vm.specs.Refusals.{refused};
 ghost use Rattle.lol_vm.specs.RunRefusals.{allowance_of, IsRefusedAt, StopsBeforeLimit, StopsFor};
-ghost use Rattle.lol_vm.specs.Views.{HasRangesInside, event_of, answer_of, selectors};
-ghost use Rattle.lol_vm.specs.Vms.{slots_charged, slot_bytes};
+ghost use Rattle.lol_vm.specs.TagEvents.{HasRangesInside, event_of, answer_of};
+ghost use Rattle.lol_vm.specs.ToldEvents.{AnswersOne, ForNew, ForTold, ForUnfinished, IsCauseOf, RefusesEvent, WasTold, reported_as};
 
 use crate::collected::Collected;
-use crate::event_run::{EventRun, Started};
-use crate::events::{RunCause, RunRefusal, RunStop, StartOutcome, TagEvent, TagReport};
-use lol_base::{AuxStartTagInfo, LocalName, Namespace};
-use lol_memory::{MatchInfo, SharedMemoryLimiter};
+use crate::events::{RunCause, RunRefusal, RunStop, TagEvent, TagReport};
+use lol_base::{AuxStartTagInfo, Namespace};
+use lol_machine::machine_laws::documents_are_ordered;
+use lol_matcher::laws::calls_answer_alike;
+use lol_matcher::{Matcher, MatcherError, OpenElement, Started};
+use lol_memory::SharedMemoryLimiter;
 use lol_program::Ast;
-use std::alloc::Global;
+use std::alloc::{AllocError, Global};
 
 fn refused(reports: Vec<TagReport>, event: usize, cause: RunCause) -> RunRefusal
     ensures { result ≡ record { reports = reports; event = event; cause = cause } }
@@ -124,53 +126,48 @@ pub fn match_each_event<F: FnMut(TagReport)>(
         (refused (selectors ast) enable_esi_tags (allowance_of item_bytes limiter.old) (map event_of events.now))) }
     ensures usage { limiter.new ≡ limiter.old }
 {
-    let usage = limiter.current_usage();
-    let Ok(mut run) = EventRun::new(alloc, ast, item_bytes, enable_esi_tags) else {
-        return Err(RunStop {
+    // What is counted so far is within the maximum.
+    let _usage = limiter.current_usage();
+    let remaining = limiter.remaining();
+    match new_matcher(alloc, ast, item_bytes, enable_esi_tags, remaining) {
+        Ok(mut matcher) => answer_events(alloc, &mut matcher, events, handler),
+        Err(_) => Err(RunStop {
             event: 0,
             cause: RunCause::Memory,
-        });
-    };
-    let answered = answer_events(alloc, &mut run, events, limiter, handler);
-    run.release(limiter);
-    let unchanged = limiter.current_usage() == usage;
-    prove!(unchanged);
-    answered
+        }),
+    }
 }
 
 /// Answers events, up to the first that is refused.
 fn answer_events<F: FnMut(TagReport)>(
     alloc: Global,
-    run: &mut EventRun,
+    matcher: &mut Matcher,
     events: &[TagEvent],
-    limiter: &mut SharedMemoryLimiter,
     handler: &mut F,
 ) -> Result<(), RunStop>
     requires ranges { All HasRangesInside events.now }
     requires callable { F.IsAlwaysCallable handler.old }
     ensures again { F.IsAlwaysCallable handler.new }
-    ensures ok { OnOk result (ForNewRun run.old limiter.old (λ s esi item_bytes before.
-        IsCalledWithAnswers F.step s esi (map event_of events.now) handler.old handler.new)) }
-    ensures fits { OnOk result (ForNewRun run.old limiter.old (λ s esi item_bytes before.
-        refused s esi (allowance_of item_bytes before) (map event_of events.now) ≡ None)) }
-    ensures refused { IfErr result (λ stop. ForNewRun run.old limiter.old (λ s esi item_bytes before.
-        IsCalledWithAnswers F.step s esi (map event_of (take stop.event events.now)) handler.old handler.new)) }
+    ensures ok { OnOk result (ForNew matcher.old (λ ast esi a.
+        IsCalledWithAnswers F.step (selectors ast) esi (map event_of events.now) handler.old handler.new)) }
+    ensures fits { OnOk result (ForNew matcher.old (λ ast esi a.
+        refused (selectors ast) esi a (map event_of events.now) ≡ None)) }
+    ensures refused { IfErr result (λ stop. ForNew matcher.old (λ ast esi a. IsCalledWithAnswers F.step
+        (selectors ast) esi (map event_of (take stop.event events.now)) handler.old handler.new)) }
     ensures event { IfErr result (λ stop. (stop.event ≡ 0) ⊎ (stop.event < length events.now)) }
-    ensures cause { IfErr result (λ stop. ForNewRun run.old limiter.old (λ s esi item_bytes before.
-        StopsFor stop.cause stop.event (refused s esi (allowance_of item_bytes before) (map event_of events.now)))) }
-    ensures due { IfErr result (λ stop. ForNewRun run.old limiter.old (λ s esi item_bytes before.
-        StopsBeforeLimit s esi (map event_of events.now) stop.cause stop.event
-        (refused s esi (allowance_of item_bytes before) (map event_of events.now)))) }
-    ensures charged { ForNewRun run.old limiter.old (λ s esi item_bytes before.
-        IsCharged item_bytes before (machine_of run.new) limiter.new) }
+    ensures cause { IfErr result (λ stop. ForNew matcher.old (λ ast esi a.
+        StopsFor stop.cause stop.event (refused (selectors ast) esi a (map event_of events.now)))) }
+    ensures due { IfErr result (λ stop. ForNew matcher.old (λ ast esi a.
+        StopsBeforeLimit (selectors ast) esi (map event_of events.now) stop.cause stop.event
+        (refused (selectors ast) esi a (map event_of events.now)))) }
 {
     for (number, event) in events.iter().enumerate() {
-        match answer_event(alloc, run, event, limiter) {
+        match answer_event(alloc, matcher, event) {
             Ok(report) => handler(report),
-            Err(cause) => {
+            Err(error) => {
                 return Err(RunStop {
                     event: number,
-                    cause,
+                    cause: cause_of(error),
                 });
             }
         }
@@ -178,20 +175,47 @@ fn answer_events<F: FnMut(TagReport)>(
     Ok(())
 }
 
+/// A matcher that was told nothing, and may charge so many bytes.
+fn new_matcher(
+    alloc: Global,
+    ast: Ast,
+    item_bytes: usize,
+    enable_esi_tags: bool,
+    max_memory: usize,
+) -> Result<Matcher, AllocError>
+    requires { 1 ≤ item_bytes }
+    ensures { IfOk result (λ matcher. WasTold ast enable_esi_tags (allowance item_bytes max_memory) [] matcher) }
+{
+    let mut builder = Matcher::builder(alloc);
+    builder.set_tree(ast);
+    builder.max_memory(max_memory);
+    builder.element_bytes(item_bytes);
+    builder.enable_esi_tags(enable_esi_tags);
+    builder.build()
+}
+
+/// The cause that a run is stopped for where a matcher refuses a tag.
+fn cause_of(error: MatcherError) -> RunCause
+    ensures { IsCauseOf error result }
+{
+    match error {
+        MatcherError::MemoryLimitExceeded => RunCause::MemoryLimitExceeded,
+        MatcherError::CounterFull => RunCause::CounterFull,
+        _ => RunCause::Memory,
+    }
+}
+
 /// Answers one event.
 fn answer_event(
     alloc: Global,
-    run: &mut EventRun,
+    matcher: &mut Matcher,
     event: &TagEvent,
-    limiter: &mut SharedMemoryLimiter,
-) -> Result<TagReport, RunCause>
+) -> Result<TagReport, MatcherError>
     requires { HasRangesInside event.now }
-    ensures goes { IfOk result (λ report. ForRunOfEvents run.old limiter.old (λ s esi item_bytes before events.
-        Goes s esi item_bytes before run.new events (event_of event.now) limiter.new report)) }
-    ensures stops { IfErr result (λ cause. ForRunOfEvents run.old limiter.old (λ s esi item_bytes before events.
-        Stops cause s esi item_bytes before events (event_of event.now))) }
-    ensures charged { OnErr result (ForRunOfEvents run.old limiter.old (λ s esi item_bytes before events.
-        IsCharged item_bytes before (machine_of run.new) limiter.new)) }
+    ensures answers { IfOk result (λ report. ForTold matcher.old (λ ast esi a events.
+        AnswersOne ast esi a events (event_of event.now) report matcher.new)) }
+    ensures refused { IfErr result (λ error. ForTold matcher.old (λ ast esi a events.
+        RefusesEvent error ast esi a events (event_of event.now))) }
 {
     match event {
         TagEvent::Start {
@@ -200,77 +224,90 @@ fn answer_event(
             aux_info,
             finish,
         } => {
-            let rest = if *finish { Some(*aux_info) } else { None };
-            answer_start(alloc, run, LocalName::new(name), *ns, rest, limiter)
+            if *finish {
+                answer_start(alloc, matcher, name, *ns, *aux_info)
+            } else {
+                answer_unfinished(alloc, matcher, name, *ns)
+            }
         }
-        TagEvent::End { name } => answer_end(alloc, run, LocalName::new(name)),
+        TagEvent::End { name } => answer_end(alloc, matcher, name),
     }
 }
 
-/// Answers a start tag, whose attributes are handed over if there is a rest.
+/// Answers a start tag, whose attributes are handed over.
 fn answer_start(
     alloc: Global,
-    run: &mut EventRun,
-    local_name: LocalName<'_>,
+    matcher: &mut Matcher,
+    name: &[u8],
     ns: Namespace,
-    rest: Option<AuxStartTagInfo<'_>>,
-    limiter: &mut SharedMemoryLimiter,
-) -> Result<TagReport, RunCause>
-    requires { IfSome rest RangesAreInside }
-    ensures goes { IfOk result (λ report.
-        ForTagInRun run.old limiter.old local_name.entry ns rest.entry (λ s esi item_bytes before events tag.
-        Goes s esi item_bytes before run.new events (Start tag) limiter.new report)) }
-    ensures stops { IfErr result (λ cause.
-        ForTagInRun run.old limiter.old local_name.entry ns rest.entry (λ s esi item_bytes before events tag.
-        Stops cause s esi item_bytes before events (Start tag))) }
-    ensures charged { OnErr result
-        (ForTagInRun run.old limiter.old local_name.entry ns rest.entry (λ s esi item_bytes before events tag.
-        IsCharged item_bytes before (machine_of run.new) limiter.new)) }
+    aux_info: AuxStartTagInfo<'_>,
+) -> Result<TagReport, MatcherError>
+    requires { RangesAreInside aux_info }
+    ensures answers { IfOk result (λ report. ForTold matcher.old (λ ast esi a events.
+        AnswersOne ast esi a events (Start (tag_of name.now ns aux_info.entry true)) report matcher.new)) }
+    ensures refused { IfErr result (λ error. ForTold matcher.old (λ ast esi a events.
+        RefusesEvent error ast esi a events (Start (tag_of name.now ns aux_info.entry true)))) }
 {
-    let mut collected = Collected::new(alloc);
-    let mut handler = |info: MatchInfo|
-        ensures { Collects collected.entry info collected.exit }
-    {
-        collected.keep(info);
-    };
-    let outcome = run.start(local_name, ns, rest, limiter, &mut handler)?;
-    let Collected { items, refused } = collected;
-    if refused {
-        return Err(RunCause::Memory);
+    calls_answer_alike();
+    match matcher.start_with(name, ns, aux_info) {
+        Ok(asked) => report_of(alloc, matcher, asked),
+        Err(error) => Err(error),
     }
-    Ok(match outcome {
-        StartOutcome::Dropped => TagReport::Dropped,
-        StartOutcome::Reported { asked } => TagReport::Started {
-            matched: items,
+}
+
+/// Answers a start tag, whose attributes aren't handed over.
+fn answer_unfinished(
+    alloc: Global,
+    matcher: &mut Matcher,
+    name: &[u8],
+    ns: Namespace,
+) -> Result<TagReport, MatcherError>
+    ensures answers { IfOk result (λ report. ForTold matcher.old (λ ast esi a events.
+        ForUnfinished name.now ns (λ tag. AnswersOne ast esi a events (Start tag) report matcher.new))) }
+    ensures refused { IfErr result (λ error. ForTold matcher.old (λ ast esi a events.
+        ForUnfinished name.now ns (λ tag. RefusesEvent error ast esi a events (Start tag)))) }
+{
+    calls_answer_alike();
+    match matcher.start(name, ns) {
+        Ok(Started::Reported) => report_of(alloc, matcher, false),
+        Ok(Started::NeedsAttributes) => Ok(TagReport::Dropped),
+        Err(error) => Err(error),
+    }
+}
+
+/// What the last start tag was reported under, and what was tried for it.
+fn report_of(alloc: Global, matcher: &Matcher, asked: bool) -> Result<TagReport, MatcherError>
+    ensures report { IfOk result (λ report. answer_of report ≡ reported_as asked matcher.now) }
+    ensures memory { IfErr result (λ error. error ≡ MatcherError.Memory) }
+{
+    match matcher.matches().to_vec(alloc) {
+        Ok(matched) => Ok(TagReport::Started {
             asked,
-            tries: run.tries(),
-        },
-    })
+            matched,
+            tries: matcher.tries(),
+        }),
+        Err(_) => Err(MatcherError::Memory),
+    }
 }
 
 /// Answers an end tag with the numbers of the elements that it closes, the outermost first.
-fn answer_end(
-    alloc: Global,
-    run: &mut EventRun,
-    local_name: LocalName<'_>,
-) -> Result<TagReport, RunCause>
-    ensures goes { IfOk result (λ report.
-        ForEndInRun run.old local_name.entry (λ s esi item_bytes before events now name.
-        Goes s esi item_bytes before run.new events (End name) now report)) }
-    ensures memory { IfErr result (λ cause. cause ≡ RunCause.Memory) }
-    ensures slots { slots_charged (machine_of run.new) ≡ slots_charged (machine_of run.old) }
-    ensures bytes { slot_bytes (machine_of run.new) ≡ slot_bytes (machine_of run.old) }
+fn answer_end(alloc: Global, matcher: &mut Matcher, name: &[u8]) -> Result<TagReport, MatcherError>
+    ensures answers { IfOk result (λ report. ForTold matcher.old (λ ast esi a events.
+        AnswersOne ast esi a events (End name.now) report matcher.new)) }
+    ensures memory { IfErr result (λ error. error ≡ MatcherError.Memory) }
 {
+    documents_are_ordered();
+    calls_answer_alike();
     let mut collected = Collected::new(alloc);
-    let mut handler = |started: Started|
-        ensures { Collects collected.entry started.value collected.exit }
+    let mut handler = |element: OpenElement<()>|
+        ensures { Collects collected.entry element.number collected.exit }
     {
-        collected.keep(started.value);
+        collected.keep(element.number);
     };
-    run.end(local_name, &mut handler)?;
+    matcher.end_with(name, &mut handler);
     let Collected { items, refused } = collected;
     if refused {
-        return Err(RunCause::Memory);
+        return Err(MatcherError::Memory);
     }
     Ok(TagReport::Ended { closed: items })
 }

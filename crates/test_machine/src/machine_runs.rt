@@ -1,7 +1,7 @@
 //! A machine with the limiter that it is lent, driven tag by tag, for the rows of `machines.rt`.
 
 ghost use Rattle.std.specs.Prelude.{◌≡◌};
-ghost use Rattle.lol_vm.specs.Vms.{slot_bytes};
+ghost use Rattle.lol_machine.specs.Vms.{slot_bytes};
 
 use lol_vm::{
     Ast, Attributes, AuxStartTagInfoRequest, Collected, LocalName, MatchInfo, SelectorMatchingVm,

@@ -1,7 +1,7 @@
 //! What a machine says of tags: rows of lol_html's own tests and of the standards, which code and definitions that are wrong alike fail.
 
 ghost use Rattle.std.specs.Prelude.{◌≡◌};
-ghost use Rattle.lol_vm.specs.Vms.{slot_bytes};
+ghost use Rattle.lol_machine.specs.Vms.{slot_bytes};
 
 use crate::machine_runs::{
     Machine, Said, Told, end, is_dropped, machine_with, release, start, start_whole,

@@ -2,7 +2,7 @@
 
 ghost use Rattle.std.specs.Prelude.{◌≡◌};
 ghost use Rattle.lol_stack.specs.Stacks.{item_bytes_in};
-ghost use Rattle.lol_vm.specs.Vms.{slot_bytes};
+ghost use Rattle.lol_machine.specs.Vms.{slot_bytes};
 
 use lol_vm::{ElementValue, MatchInfo, SelectorMatchingVm, SharedMemoryLimiter, Stack};
 

@@ -2,7 +2,7 @@
 
 ghost use Rattle.std.specs.Prelude.{◌≡◌};
 ghost use Rattle.lol_base.specs.StartTags.{RangesAreInside};
-ghost use Rattle.lol_vm.specs.Vms.{slot_bytes};
+ghost use Rattle.lol_machine.specs.Vms.{slot_bytes};
 
 use crate::element::{Calls, Element, ITEM_BYTES, release};
 use crate::outcome::{Met, Stop, expect};

@@ -1,7 +1,7 @@
 //! Whole runs: each request for memory can be refused.
 
 ghost use Rattle.std.specs.Prelude.{◌≡◌, All};
-ghost use Rattle.lol_vm.specs.Views.{HasRangesInside};
+ghost use Rattle.lol_vm.specs.TagEvents.{HasRangesInside};
 
 use crate::lists::are_ids;
 use crate::outcome::{Met, Stop, expect};

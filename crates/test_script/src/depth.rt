@@ -1,7 +1,7 @@
 //! A document of 100,000 open elements, tag by tag: a machine that refuses at some depth meets its contract.
 
 ghost use Rattle.std.specs.Prelude.{◌≡◌};
-ghost use Rattle.lol_vm.specs.Vms.{slot_bytes};
+ghost use Rattle.lol_machine.specs.Vms.{slot_bytes};
 
 use lol_base::{LocalName, Namespace};
 use lol_css::Selector;

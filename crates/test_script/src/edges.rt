@@ -1,7 +1,7 @@
 //! Ids, drops, limits and lines at their edges, worked by hand: code and definition that are off by one alike fail.
 
 ghost use Rattle.std.specs.Prelude.{◌≡◌, []};
-ghost use Rattle.lol_vm.specs.Views.{HasRangesInside};
+ghost use Rattle.lol_vm.specs.TagEvents.{HasRangesInside};
 
 use crate::runs::{expect_lines, expect_run};
 use lol_script::Status;

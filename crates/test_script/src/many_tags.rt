@@ -1,7 +1,7 @@
 //! Whole runs of many tags. A run that refuses the tag of some number meets its contract.
 
 ghost use Rattle.std.specs.Prelude.{All, IfOk};
-ghost use Rattle.lol_vm.specs.Views.{HasRangesInside};
+ghost use Rattle.lol_vm.specs.TagEvents.{HasRangesInside};
 
 use crate::great::expect;
 use lol_base::Attributes;

@@ -4,7 +4,7 @@ use Rattle.std.specs.Prelude.{ℕ, decimal}
 use Rattle.std.specs.List.{flat_map}
 use Rattle.std.proofs.lemmas.List.{append-nil}
 use Rattle.lol_memory.specs.declared.match_info.MatchInfo.{MatchInfo}
-use Rattle.lol_vm.specs.Views.{match_of}
+use Rattle.lol_machine.specs.Views.{match_of}
 use Rattle.zugrenja.specs.Lines.{later_number, numbers}
 
 pub numbers_are : (m : MatchInfo) (more : List MatchInfo) → numbers (map match_of (m ∷ more)) ≡ decimal m.match_id ++ flat_map later_number more

@@ -6,7 +6,7 @@ use Rattle.std.proofs.KnownBytes.{Appends-trans, Consumes-trans}
 use Rattle.std.proofs.Math.Seq.{take-add}
 use Rattle.std.proofs.lemmas.List.{append-nil, take_rest}
 use Rattle.lol_program.specs.declared.ast.Ast.{Ast}
-use Rattle.lol_vm.specs.Views.{selectors}
+use Rattle.lol_machine.specs.Views.{selectors}
 use Rattle.lol_page.specs.Pages.{fresh_page, page_tags_from}
 use Rattle.lol_page_matcher.specs.PageMatches.{PageMatch, matches_told, page_matches}
 use Rattle.lol_page_matcher.specs.declared.page.Page.{Page}

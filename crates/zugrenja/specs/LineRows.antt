@@ -1,7 +1,7 @@
 -- Lines, worked by hand.
 use Rattle.std.specs.Prelude.{ℕ, true, false, List, [], ◌∷◌, ◌++◌, codes, Some}
 use Rattle.lol_base.specs.declared.namespace.Namespace.TheVariants.{Html}
-use Rattle.lol_vm.specs.Answers.{Match}
+use Rattle.lol_machine.specs.Answers.{Match}
 use Rattle.lol_page_matcher.specs.PageMatches.{PageMatch}
 
 abbrev pub under : ℕ → Match

@@ -7,8 +7,8 @@ use Rattle.lol_base.specs.CodePoints.{carriage_return, line_feed}
 use Rattle.lol_base.specs.Names.{lowercased}
 use Rattle.lol_instructions.specs.Attributes.{value_among}
 use Rattle.lol_memory.specs.declared.match_info.MatchInfo.{MatchInfo}
-use Rattle.lol_vm.specs.Answers.{Match}
-use Rattle.lol_vm.specs.Views.{match_of}
+use Rattle.lol_machine.specs.Answers.{Match}
+use Rattle.lol_machine.specs.Views.{match_of}
 use Rattle.lol_tags.specs.Attributes.{attributes_of}
 use Rattle.lol_page.specs.PageTags.{PageTag}
 use Rattle.lol_page.specs.Readings.{with_text}

@@ -7,7 +7,7 @@ ghost use Rattle.lol_base.specs.Names.{lowercased};
 ghost use Rattle.lol_base.specs.StartTags.{OutlineIsInside, attribute_of};
 ghost use Rattle.lol_instructions.specs.Attributes.{value_among};
 ghost use Rattle.lol_page.specs.Readings.{with_text};
-ghost use Rattle.lol_vm.specs.Views.{match_of};
+ghost use Rattle.lol_machine.specs.Views.{match_of};
 ghost use Rattle.zugrenja.specs.Json.{json_byte, json_string};
 ghost use Rattle.zugrenja.specs.Lines.{count_line, end_of, in_one_line, json_line, later_number, line_of, match_at, number_member, numbers, numbers_line, numbers_part, page_member, page_of, place, place_members, prefix_of, selectors_member, tag_member, text_line, value_line, value_of};
 

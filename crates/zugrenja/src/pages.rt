@@ -3,7 +3,7 @@
 ghost use Rattle.std.specs.Prelude.{◌≡◌, ◌+◌, ◌<◌, ◌≤◌, ◌++◌, true, length, take, IfOk, OnOk};
 ghost use Rattle.std.specs.Io.KnownBytes.{Appends, Consumes, IsAtEnd};
 ghost use Rattle.lol_page_matcher.specs.PageMatches.{ReadsOn, page_matches};
-ghost use Rattle.lol_vm.specs.Views.{selectors};
+ghost use Rattle.lol_machine.specs.Views.{selectors};
 ghost use Rattle.zugrenja.specs.Lines.{end_of, lines_of};
 ghost use Rattle.zugrenja.specs.PageReadings.{WritesPage, matches_in, told_nothing};
 

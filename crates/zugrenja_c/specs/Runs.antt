@@ -5,8 +5,8 @@ use Rattle.lol_matcher.specs.Told.{Matching}
 use Rattle.lol_reasons.specs.Explanations.{added_by}
 use Rattle.lol_reasons.specs.Numbered.{HoldsItems, texts_in}
 use Rattle.lol_reasons.specs.declared.texts.Texts.{Texts}
-use Rattle.lol_vm.specs.ReportRoom.{HoldsEachReport}
-use Rattle.lol_vm.specs.Views.{selectors}
+use Rattle.lol_machine.specs.ReportRoom.{HoldsEachReport}
+use Rattle.lol_machine.specs.Views.{selectors}
 use Rattle.zugrenja_c.specs.declared.running.Explained.{Explained}
 
 -- A matcher and, if it explains, the texts whose items are its selectors, each under its number.

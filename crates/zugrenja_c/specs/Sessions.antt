@@ -8,7 +8,7 @@ use Rattle.lol_instructions.specs.Tries.{names_counted, attributes_counted}
 use Rattle.lol_program.specs.Asts.{pairs_of, nodes_of, is_with_rows}
 use Rattle.lol_reasons.specs.Numbered.{HasItemsOf, texts_in}
 use Rattle.lol_reasons.specs.declared.texts.Texts.{Texts}
-use Rattle.lol_vm.specs.Views.{selectors}
+use Rattle.lol_machine.specs.Views.{selectors}
 use Rattle.lol_matcher.specs.Building.{Adds, Building, IsRefused, KeepsPairs, started_with}
 use Rattle.lol_matcher.specs.Explaining.{ids_with_reasons}
 use Rattle.lol_matcher.specs.Told.{Matching}

@@ -3,8 +3,8 @@ use Rattle.std.specs.Prelude.{Option, ◌-◌, ◌^◌, min, ℕ, take, drop, ve
 use Rattle.lol_base.specs.StartTags.{StartTag, attribute_of, OutlineIsInside}
 use Rattle.lol_base.specs.declared.namespace.Namespace.{Namespace}
 use Rattle.lol_base.specs.declared.start_tag.AttributeOutline.{AttributeOutline}
-use Rattle.lol_vm.specs.Events.{Start}
-use Rattle.lol_vm.specs.Vms.{open_after}
+use Rattle.lol_machine.specs.Events.{Start}
+use Rattle.lol_machine.specs.Vms.{open_after}
 use Rattle.lol_matcher.specs.Answering.{Answers, IsFinishedAs, OpensFor, OpensStart, refused_with, told_after, with_ended, with_told, with_value}
 use Rattle.lol_matcher.specs.Refusing.{Fits, RefusesFinish, RefusesStart, refusal_of}
 use Rattle.lol_matcher.specs.Told.{Told, Matching}

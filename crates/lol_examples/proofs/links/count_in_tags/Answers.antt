@@ -1,4 +1,4 @@
-use Rattle.lol_vm.specs.CallCharges.{charges_both, charges_nothing}
+use Rattle.lol_machine.specs.CallCharges.{charges_both, charges_nothing}
 use Rattle.lol_examples.proofs.links.count_in_tags.Goals as goal
 
 pub loop-tag-init : goal.loop-tag-init

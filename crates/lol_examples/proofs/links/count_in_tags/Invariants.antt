@@ -1,4 +1,4 @@
-use Rattle.lol_vm.specs.Vms.{ChargesSlots}
+use Rattle.lol_machine.specs.Vms.{ChargesSlots}
 use Rattle.lol_examples.proofs.links.count_in_tags.Given as goal
 
 abbrev pub invariant-loop-tag : goal.invariant-loop-tag

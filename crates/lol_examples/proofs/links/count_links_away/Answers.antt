@@ -1,4 +1,4 @@
-use Rattle.lol_vm.specs.CallCharges.{covered_since_new, released_since_new}
+use Rattle.lol_machine.specs.CallCharges.{covered_since_new, released_since_new}
 use Rattle.lol_examples.proofs.links.count_links_away.Goals as goal
 
 pub release-requires : goal.release-requires

@@ -1,4 +1,4 @@
-use Rattle.lol_vm.specs.CallCharges.{charges_at_end}
+use Rattle.lol_machine.specs.CallCharges.{charges_at_end}
 use Rattle.lol_examples.proofs.links.tell.Goals as goal
 
 pub returns-in-End : goal.returns-in-End

@@ -4,11 +4,11 @@ use Rattle.lol_base.specs.LocalNames.{local_name}
 use Rattle.lol_base.specs.StartTags.{StartTag}
 use Rattle.lol_memory.specs.declared.match_info.MatchInfo.{MatchInfo}
 use Rattle.lol_program.specs.Paths.{Selectors}
-use Rattle.lol_vm.specs.Answers.{Match, document}
-use Rattle.lol_vm.specs.Events.{Event}
-use Rattle.lol_vm.specs.Vms.{IsRestOf, info_of}
-use Rattle.lol_vm.specs.Openings.{has_room, opens_handed}
-use Rattle.lol_vm.specs.ReportRoom.{HoldsEachReport}
+use Rattle.lol_machine.specs.Answers.{Match, document}
+use Rattle.lol_machine.specs.Events.{Event}
+use Rattle.lol_machine.specs.Vms.{IsRestOf, info_of}
+use Rattle.lol_machine.specs.Openings.{has_room, opens_handed}
+use Rattle.lol_machine.specs.ReportRoom.{HoldsEachReport}
 use Rattle.lol_matcher.specs.Keeping.{IsToldAs, Runs, allowed}
 use Rattle.lol_matcher.specs.LastLaws.{answered}
 use Rattle.lol_matcher.proofs.Charges.{charged_after}

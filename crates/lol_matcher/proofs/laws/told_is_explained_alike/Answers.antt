@@ -3,7 +3,7 @@ use Rattle.lol_program.specs.Asts.{is_with_rows}
 use Rattle.lol_program.specs.ClosedLaws.{trees_are_closed}
 use Rattle.lol_program.specs.Paths.{Path}
 use Rattle.lol_reasons.specs.Explanations.{added_by}
-use Rattle.lol_vm.specs.Views.{selectors}
+use Rattle.lol_machine.specs.Views.{selectors}
 use Rattle.lol_matcher.proofs.ToldReasons.{explained_alike, numbered_nodes}
 use Rattle.lol_matcher.proofs.laws.told_is_explained_alike.Goals as goal
 

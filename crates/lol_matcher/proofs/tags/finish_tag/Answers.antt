@@ -3,14 +3,14 @@ use Rattle.std.proofs.lemmas.Fn.{chained_keeps}
 use Rattle.lol_base.specs.StartTags.{StartTag}
 use Rattle.lol_memory.specs.declared.match_info.MatchInfo.{MatchInfo}
 use Rattle.lol_program.specs.Paths.{Selectors}
-use Rattle.lol_vm.specs.Answers.{Match}
-use Rattle.lol_vm.specs.Events.{Event}
-use Rattle.lol_vm.specs.ReportRoom.{HoldsEachReport}
-use Rattle.lol_vm.specs.Vms.{IsPending, IsRestOf, info_of}
+use Rattle.lol_machine.specs.Answers.{Match}
+use Rattle.lol_machine.specs.Events.{Event}
+use Rattle.lol_machine.specs.ReportRoom.{HoldsEachReport}
+use Rattle.lol_machine.specs.Vms.{IsPending, IsRestOf, info_of}
 use Rattle.lol_matcher.specs.Keeping.{IsToldAs, RunsPast, allowed, ids_of}
 use Rattle.lol_matcher.proofs.Filled.{HasTaken, takes_on}
 use Rattle.lol_matcher.proofs.Handing.{fits_in}
-use Rattle.lol_vm.specs.Openings.{opens_handed}
+use Rattle.lol_machine.specs.Openings.{opens_handed}
 use Rattle.lol_matcher.proofs.Charges.{charged_after}
 use Rattle.lol_matcher.proofs.Refusals.{refused_for_limit, refused_for_memory}
 use Rattle.lol_matcher.proofs.Running.{charged_before, countable_before, room_before}

@@ -1,7 +1,7 @@
 use Rattle.std.proofs.Common.{◌≡◌, ◌-◌, Some, None, length, sym, ap, ◌∙◌}
 use Rattle.std.specs.Prelude.{slice_get}
 use Rattle.std.specs.Option.{option_copied_mut}
-use Rattle.lol_vm.specs.Vms.{data_in}
+use Rattle.lol_machine.specs.Vms.{data_in}
 use Rattle.lol_matcher.specs.declared.open_element.OpenElement.{OpenElement}
 use Rattle.lol_matcher.proofs.Opened.{change_last_is}
 use Rattle.lol_matcher.proofs.tags.number_last.Goals as goal

@@ -1,7 +1,7 @@
 use Rattle.std.proofs.Common.{◌≡◌, ◌-◌, Some, length, sym, ap, ◌∙◌}
 use Rattle.std.specs.Prelude.{slice_get, slice_set}
 use Rattle.std.specs.Option.{option_copied_mut}
-use Rattle.lol_vm.specs.Vms.{data_in}
+use Rattle.lol_machine.specs.Vms.{data_in}
 use Rattle.lol_matcher.specs.declared.open_element.OpenElement.{OpenElement}
 use Rattle.lol_matcher.proofs.Opened.{change_last_is, last_value_is}
 use Rattle.lol_matcher.proofs.tags.replace_value.Goals as goal

@@ -5,11 +5,11 @@ use Rattle.lol_base.specs.StartTags.{StartTag}
 use Rattle.lol_memory.specs.Limiter.{Limiter}
 use Rattle.lol_memory.specs.declared.match_info.MatchInfo.{MatchInfo}
 use Rattle.lol_program.specs.Paths.{Selectors}
-use Rattle.lol_vm.specs.Answers.{Match}
-use Rattle.lol_vm.specs.Events.{Event}
-use Rattle.lol_vm.specs.Vms.{info_of}
-use Rattle.lol_vm.specs.Openings.{has_room, opens_unasked}
-use Rattle.lol_vm.specs.ReportRoom.{HoldsEachReport}
+use Rattle.lol_machine.specs.Answers.{Match}
+use Rattle.lol_machine.specs.Events.{Event}
+use Rattle.lol_machine.specs.Vms.{info_of}
+use Rattle.lol_machine.specs.Openings.{has_room, opens_unasked}
+use Rattle.lol_machine.specs.ReportRoom.{HoldsEachReport}
 use Rattle.lol_matcher.specs.Keeping.{IsToldAs, Runs, allowed}
 use Rattle.lol_matcher.proofs.Charges.{charged_after, charged_alike}
 use Rattle.lol_matcher.proofs.Filled.{HasTaken, takes_on}

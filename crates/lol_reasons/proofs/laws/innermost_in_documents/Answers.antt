@@ -1,5 +1,5 @@
-use Rattle.lol_vm.specs.Documents.{element_of}
-use Rattle.lol_vm.specs.Answers.{document}
+use Rattle.lol_machine.specs.Documents.{element_of}
+use Rattle.lol_machine.specs.Answers.{document}
 use Rattle.lol_reasons.proofs.WitnessLemmas.{none_is_nearer}
 use Rattle.lol_reasons.proofs.laws.innermost_in_documents.Goals as goal
 

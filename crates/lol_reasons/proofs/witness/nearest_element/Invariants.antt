@@ -1,5 +1,5 @@
 use Rattle.std.proofs.Common.{◌≡◌, ◌≤◌, length, take}
-use Rattle.lol_vm.specs.Machines.{items_shown}
+use Rattle.lol_machine.specs.Machines.{items_shown}
 use Rattle.lol_reasons.specs.Climbing.{nearest_giving}
 use Rattle.lol_reasons.proofs.witness.nearest_element.Given as goal
 

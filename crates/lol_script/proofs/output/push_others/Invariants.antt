@@ -1,6 +1,6 @@
 use Rattle.std.proofs.Common.{◌≡◌, ◌++◌, ◌∷◌, take}
 use Rattle.std.specs.List.{flat_map}
-use Rattle.lol_vm.specs.Views.{match_of}
+use Rattle.lol_machine.specs.Views.{match_of}
 use Rattle.lol_script.specs.Output.{shown_match}
 use Rattle.lol_script.proofs.output.push_others.Given as goal
 

@@ -1,7 +1,7 @@
 use Rattle.std.proofs.Common.{◌++◌, ◌∷◌, [], List, ℕ, map, ap, ◌∙◌}
 use Rattle.std.proofs.lemmas.Result.{on_ok_weaker}
 use Rattle.lol_memory.specs.declared.match_info.MatchInfo.{MatchInfo}
-use Rattle.lol_vm.specs.Views.{match_of}
+use Rattle.lol_machine.specs.Views.{match_of}
 use Rattle.lol_script.specs.AnswerTexts.{end_of_start}
 use Rattle.lol_script.specs.Output.{comma_list, shown_match}
 use Rattle.lol_script.proofs.Commas.{map_through, start_written}

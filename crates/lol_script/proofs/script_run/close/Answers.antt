@@ -3,7 +3,7 @@ use Rattle.std.proofs.Common.{rules, ◌≡◌, ◌++◌, ◌∷◌, [], ℕ, Li
 use Rattle.std.specs.Prelude.{drop}
 use Rattle.std.proofs.lemmas.Fn.{chained_keeps}
 use Rattle.std.proofs.lemmas.List.{map-append}
-use Rattle.lol_vm.specs.Vms.{open_after}
+use Rattle.lol_machine.specs.Vms.{open_after}
 use Rattle.lol_matcher.specs.declared.open_element.OpenElement.{OpenElement}
 use Rattle.lol_script.specs.AnswerTexts.{HasListed}
 use Rattle.lol_script.specs.declared.output.ClosedList.{ClosedList}

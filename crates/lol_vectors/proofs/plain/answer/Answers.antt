@@ -1,7 +1,7 @@
 use Rattle.std.proofs.Common.{false, ap, sym, ◌∙◌}
 use Rattle.std.proofs.lemmas.Result.{on_ok_weaker, IfOk-weaker}
-use Rattle.lol_vm.specs.Answers as answers
-use Rattle.lol_vm.specs.Views.{event_of}
+use Rattle.lol_machine.specs.Answers as answers
+use Rattle.lol_vm.specs.TagEvents.{event_of}
 use Rattle.lol_vectors.specs.PlainNodes.{selectors_shown}
 use Rattle.lol_vectors.specs.Plain.{document_shown, start_answer, started}
 use Rattle.lol_vectors.proofs.plain.answer.Goals as goal

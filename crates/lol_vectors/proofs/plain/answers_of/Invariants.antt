@@ -1,6 +1,6 @@
 use Rattle.std.proofs.Common.{false, ◌≡◌, ◌++◌, drop, map}
-use Rattle.lol_vm.specs.Answers.{answers, answers_from}
-use Rattle.lol_vm.specs.Views.{event_of}
+use Rattle.lol_machine.specs.Answers.{answers, answers_from}
+use Rattle.lol_vm.specs.TagEvents.{event_of}
 use Rattle.lol_vectors.specs.PlainNodes.{selectors_shown}
 use Rattle.lol_vectors.specs.Plain.{document_shown, answer_shown}
 use Rattle.lol_vectors.proofs.plain.answers_of.Given as goal

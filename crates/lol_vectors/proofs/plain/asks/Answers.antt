@@ -6,7 +6,7 @@ use Rattle.lol_base.specs.contracts.namespace.Namespace.{the_type}
 use Rattle.lol_base.specs.declared.namespace.Namespace.{Namespace}
 use Rattle.lol_base.specs.declared.namespace.Namespace.TheVariants.{Html, Svg, MathML}
 use Rattle.lol_instructions.specs.Tests.{is_html}
-use Rattle.lol_vm.specs.Answers.{needs_attributes}
+use Rattle.lol_machine.specs.Answers.{needs_attributes}
 use Rattle.lol_vectors.specs.PlainElements.{element_shown}
 use Rattle.lol_vectors.specs.PlainNodes.{paths_of}
 use Rattle.lol_vectors.proofs.PlainTrees.{any_counted}

@@ -1,5 +1,5 @@
 use Rattle.std.proofs.Common.{◌≡◌, map}
-use Rattle.lol_vm.specs.Views.{match_of}
+use Rattle.lol_machine.specs.Views.{match_of}
 use Rattle.lol_vectors.proofs.plain.infos_of.Given as goal
 
 abbrev pub invariant-loop-match_id : goal.invariant-loop-match_id

@@ -2,8 +2,8 @@ use Rattle.std.proofs.Common.{false, ◌≡◌, ◌++◌, ap, ◌∙◌, map}
 use Rattle.std.proofs.lemmas.Result.{IfOk-weaker}
 use Rattle.lol_program.specs.Asts.{trees_of}
 use Rattle.lol_program.specs.Paths.{First}
-use Rattle.lol_vm.specs.Answers.{answers}
-use Rattle.lol_vm.specs.Views.{event_of}
+use Rattle.lol_machine.specs.Answers.{answers}
+use Rattle.lol_vm.specs.TagEvents.{event_of}
 use Rattle.lol_vectors.specs.PlainNodes.{node_shown, nodes_listed, selectors_listed}
 use Rattle.lol_vectors.proofs.PlainTrees.{listed_answers}
 use Rattle.lol_vectors.proofs.plain.plain_answers.Goals as goal

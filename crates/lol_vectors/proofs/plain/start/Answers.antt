@@ -2,9 +2,9 @@ use Rattle.std.proofs.Common.{◌≡◌, false, ap, sym, ◌∙◌, map, cond, n
 use Rattle.std.specs.Prelude.{count_by}
 use Rattle.lol_instructions.specs.Compounds.{by_names, is_open}
 use Rattle.lol_program.specs.Paths.{last_compound}
-use Rattle.lol_vm.specs.Events.{has_content_in}
-use Rattle.lol_vm.specs.Answers as answers
-use Rattle.lol_vm.specs.Matching.{left_matches}
+use Rattle.lol_machine.specs.Events.{has_content_in}
+use Rattle.lol_machine.specs.Answers as answers
+use Rattle.lol_machine.specs.Matching.{left_matches}
 use Rattle.lol_vectors.specs.PlainElements.{tag_shown, element_shown}
 use Rattle.lol_vectors.specs.PlainNodes.{selectors_shown}
 use Rattle.lol_vectors.specs.Plain.{answer_shown}

@@ -1,5 +1,5 @@
 use Rattle.std.proofs.Common.{◌≡◌, ◌≤◌, map, take}
-use Rattle.lol_vm.specs.Documents as documents
+use Rattle.lol_machine.specs.Documents as documents
 use Rattle.lol_vectors.specs.Plain.{child_shown}
 use Rattle.lol_vectors.proofs.plain_document.children_of.Given as goal
 

@@ -1,8 +1,8 @@
 use Rattle.std.proofs.Common.{ap, sym, ◌∙◌, map, take, List}
 use Rattle.lol_memory.specs.Ids.{ascending}
 use Rattle.lol_program.specs.IdSetLaws.{ascending-no_ids}
-use Rattle.lol_vm.specs.Answers as answers
-use Rattle.lol_vm.specs.Matching.{matches}
+use Rattle.lol_machine.specs.Answers as answers
+use Rattle.lol_machine.specs.Matching.{matches}
 use Rattle.lol_vectors.specs.PlainElements.{element_shown}
 use Rattle.lol_vectors.specs.PlainNodes.{path_shown, pairs_of}
 use Rattle.lol_vectors.specs.declared.plain_nodes.Step.{Step}

@@ -1,6 +1,6 @@
 use Rattle.std.proofs.Common.{◌≡◌, map, take}
 use Rattle.lol_memory.specs.Ids.{ascending}
-use Rattle.lol_vm.specs.Answers as answers
+use Rattle.lol_machine.specs.Answers as answers
 use Rattle.lol_vectors.specs.PlainElements.{element_shown}
 use Rattle.lol_vectors.specs.PlainNodes.{pairs_of}
 use Rattle.lol_vectors.proofs.plain_nodes.matching_ids.Given as goal

@@ -1,5 +1,5 @@
 use Rattle.std.specs.Prelude.{All}
-use Rattle.lol_vm.specs.Views.{HasRangesInside}
+use Rattle.lol_vm.specs.TagEvents.{HasRangesInside}
 use Rattle.lol_vectors.proofs.tag_words.events_of.Given as goal
 
 abbrev pub invariant-loop-tag : goal.invariant-loop-tag

@@ -1,5 +1,5 @@
 use Rattle.std.proofs.Common.{◌≡◌, ◌≤◌, ◌<◌, ℕ, Bool, true, false, true≢false, Option, Some, None, ap, sym, arith, refl}
-use Rattle.lol_vm.specs.Refusals.{Cause, Limit, Counter}
+use Rattle.lol_machine.specs.Refusals.{Cause, Limit, Counter}
 use Rattle.lol_vm.specs.RunRefusals.{IsUntil}
 use Rattle.lol_vectors.proofs.worked_runs.causes_of_refused_runs.Goals as goal
 

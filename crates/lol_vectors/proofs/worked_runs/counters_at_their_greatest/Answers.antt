@@ -1,5 +1,5 @@
 use Rattle.std.proofs.Common.{refl, ap, nat_lt, if◌then◌else◌, Some}
-use Rattle.lol_vm.specs.Refusals.{Counter}
+use Rattle.lol_machine.specs.Refusals.{Counter}
 use Rattle.lol_vectors.specs.WorkedRuns.{limit_alone}
 use Rattle.lol_vectors.proofs.worked_runs.counters_at_their_greatest.Goals as goal
 

@@ -1,10 +1,17 @@
-use Rattle.lol_vm.proofs.Common.{of_calls, ◌≡◌, ℕ, ◌+◌, ◌<◌, List, [], ◌∷◌, ◌++◌, ap, sym, subst, ◌∙◌, arith, map, take, drop, length, get_or, inr, map_push, map-append, take_more, take_all, take-append-drop, length-map, length-take-le, answers, empty, Event, IsRunOf, refused, event_of, answer_of}
+use Rattle.std.proofs.Common.{of_calls, ◌≡◌, ℕ, ◌+◌, ◌<◌, ◌^◌, List, [], ◌∷◌, ◌++◌, ap, sym, subst, ◌∙◌, arith, map, take, drop, length, get_or, inr}
 use Rattle.std.proofs.lemmas.Fn.{FoldsTo-push}
-use Rattle.std.proofs.lemmas.List.{append_assoc}
-use Rattle.lol_vm.specs.AnswerLaws.{answers_append}
-use Rattle.lol_vm.specs.RunRefusals.{allowance_of, StopsBeforeLimit, StopsFor}
+use Rattle.std.proofs.lemmas.List.{append_assoc, length-map, length-take-le, map-append, map_push, take-append-drop, take_all, take_more}
+use Rattle.lol_machine.specs.AnswerLaws.{answers_append}
+use Rattle.lol_machine.specs.Answers.{answers}
+use Rattle.lol_machine.specs.Documents.{empty}
+use Rattle.lol_machine.specs.Events.{Event}
+use Rattle.lol_machine.specs.Refusals.{refused}
+use Rattle.lol_machine.specs.Views.{selectors}
+use Rattle.lol_vm.specs.RunRefusals.{StopsBeforeLimit, StopsFor}
+use Rattle.lol_vm.specs.TagEvents.{answer_of, event_of}
+use Rattle.lol_vm.specs.ToldEvents.{WasTold}
 use Rattle.lol_vm.specs.declared.events.TagEvent.{TagEvent}
-use Rattle.lol_vm.proofs.RefusedRuns.{stops_before_limit, stops_for}
+use Rattle.lol_vm.proofs.StoppedRuns.{stops_before_limit, stops_for}
 use Rattle.lol_vm.proofs.run.answer_events.Goals as goal
 
 module _ (all : List TagEvent) (n : ℕ) (event : TagEvent) (within : n < length all) (read : event ≡ get_or all n event) where
@@ -37,23 +44,24 @@ returns-in-Err g c =
     let so_far = c.loop-number.invariant in
     let many = before_counts all n event within read in
     let whole = all_are all n event within read in
+    let few : length front < 2 ^ 64 = (let far = c.loop-number.far-number in let end = c.loop-number.end-fits in omega (arith, many, within, far, end)) in
+    let cause = c.cause_of.result in
     record {
       again = so_far.callable;
       ok = tt;
       fits = tt;
-      refused = λ s esi item_bytes limiter r. so_far.told s esi item_bytes limiter r;
+      refused = λ ast esi a w. so_far.told ast esi a w;
       event = inr within;
-      cause = λ s esi item_bytes limiter r.
-          let now = so_far.runs s esi item_bytes limiter r in
-          let is = stops_for s esi item_bytes limiter front (later all n event within read) (event_of event) now.follows.fits c.in-Err.cause (c.in-Err.ensures.stops s esi item_bytes limiter front now) in
-          subst (λ k. StopsFor c.in-Err.cause k (refused s esi (allowance_of item_bytes limiter) (map event_of all))) many
-          (subst (λ es. StopsFor c.in-Err.cause (length front) (refused s esi (allowance_of item_bytes limiter) es)) (sym whole) is);
-      due = λ s esi item_bytes limiter r.
-          let now = so_far.runs s esi item_bytes limiter r in
-          let is = stops_before_limit s esi item_bytes limiter front (later all n event within read) (event_of event) now.follows.fits c.in-Err.cause (c.in-Err.ensures.stops s esi item_bytes limiter front now) in
-          subst (λ k. StopsBeforeLimit s esi (map event_of all) c.in-Err.cause k (refused s esi (allowance_of item_bytes limiter) (map event_of all))) many
-          (subst (λ es. StopsBeforeLimit s esi es c.in-Err.cause (length front) (refused s esi (allowance_of item_bytes limiter) es)) (sym whole) is);
-      charged = λ s esi item_bytes limiter r. c.in-Err.ensures.charged s esi item_bytes limiter front (so_far.runs s esi item_bytes limiter r);
+      cause = λ ast esi a w.
+          let now = so_far.runs ast esi a w in
+          let is = stops_for (selectors ast) esi a front (later all n event within read) (event_of event) now.fits c.in-Err.error cause c.cause_of.ensures (c.in-Err.ensures.refused ast esi a front now few) in
+          subst (λ k. StopsFor cause k (refused (selectors ast) esi a (map event_of all))) many
+          (subst (λ es. StopsFor cause (length front) (refused (selectors ast) esi a es)) (sym whole) is);
+      due = λ ast esi a w.
+          let now = so_far.runs ast esi a w in
+          let is = stops_before_limit (selectors ast) esi a front (later all n event within read) (event_of event) now.fits c.in-Err.error cause c.cause_of.ensures (c.in-Err.ensures.refused ast esi a front now few) in
+          subst (λ k. StopsBeforeLimit (selectors ast) esi (map event_of all) cause k (refused (selectors ast) esi a (map event_of all))) many
+          (subst (λ es. StopsBeforeLimit (selectors ast) esi es cause (length front) (refused (selectors ast) esi a es)) (sym whole) is);
     }
 
 pub loop-number-preserved : goal.loop-number-preserved
@@ -63,32 +71,36 @@ loop-number-preserved g c =
     let event = c.index-events-number.result in
     let within = c.loop-number-test.true in
     let read = c.index-events-number.is in
-    let front = front_more all n event within read in
+    let front = before all n event within read in
+    let more = front_more all n event within read in
+    let many = before_counts all n event within read in
+    let few : length front < 2 ^ 64 = (let far = c.loop-number.far-number in let end = c.loop-number.end-fits in omega (arith, many, within, far, end)) in
     record {
       callable = search of_calls;
-      told = λ s esi item_bytes limiter r.
-          let now = c.loop-number.invariant.runs s esi item_bytes limiter r in
-          let told = c.loop-number.invariant.told s esi item_bytes limiter r in
-          let goes = c.in-Ok.ensures.goes s esi item_bytes limiter (before all n event within read) now in
+      told = λ ast esi a w.
+          let now = c.loop-number.invariant.runs ast esi a w in
+          let told = c.loop-number.invariant.told ast esi a w in
+          let goes = c.in-Ok.ensures.answers ast esi a front now few in
           record {
             reports = told.reports ++ c.in-Ok.report ∷ [];
             answered =
                 map_push answer_of told.reports c.in-Ok.report
                 ∙ ((λ i. told.answered i ++ goes.answered i ∷ [])
-                ∙ sym (ap (answers s esi) front ∙ answers_append s esi empty (before all n event within read) (event_of event ∷ [])));
+                ∙ sym (ap (answers (selectors ast) esi) more ∙ answers_append (selectors ast) esi empty front (event_of event ∷ [])));
             called = FoldsTo-push _ _ _ _ _ _ told.called c.handler.ensures;
           };
-      runs = λ s esi item_bytes limiter r.
-          let now = c.loop-number.invariant.runs s esi item_bytes limiter r in
-          let goes = c.in-Ok.ensures.goes s esi item_bytes limiter (before all n event within read) now in
-          subst (λ es. IsRunOf s esi item_bytes limiter c.answer_event.new.run es c.answer_event.new.limiter) (sym front) goes.goes_on;
+      runs = λ ast esi a w.
+          let now = c.loop-number.invariant.runs ast esi a w in
+          subst (λ es. WasTold ast esi a es c.answer_event.new.matcher) (sym more) (c.in-Ok.ensures.answers ast esi a front now few).goes_on;
     }
 
 pub returns-clause-ok : goal.returns-clause-ok
-returns-clause-ok g c = λ s esi item_bytes before r.
+returns-clause-ok g c = λ ast esi a w.
     let whole = take_all c.loop-number.number c.args.events.now (omega (arith, c.loop-number-test.false)) in
-    let told = c.loop-number.invariant.told s esi item_bytes before r in
-    record { reports = told.reports; answered = told.answered ∙ ap (λ es. answers s esi (map event_of es)) whole; called = told.called }
+    let told = c.loop-number.invariant.told ast esi a w in
+    record { reports = told.reports; answered = told.answered ∙ ap (λ es. answers (selectors ast) esi (map event_of es)) whole; called = told.called }
 
-pub returns-clause-charged : goal.returns-clause-charged
-returns-clause-charged g c = λ s esi item_bytes before r. (c.loop-number.invariant.runs s esi item_bytes before r).follows.charged
+pub returns-clause-fits : goal.returns-clause-fits
+returns-clause-fits g c = λ ast esi a w.
+    let whole = take_all c.loop-number.number c.args.events.now (omega (arith, c.loop-number-test.false)) in
+    sym (ap (λ es. refused (selectors ast) esi a (map event_of es)) whole) ∙ (c.loop-number.invariant.runs ast esi a w).fits

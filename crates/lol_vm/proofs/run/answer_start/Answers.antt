@@ -1,27 +1,38 @@
-use Rattle.lol_vm.proofs.Common.{rules, ◌≡◌, List, false, refl, sym, ap, ◌∙◌, answer_with, machine_of, Start, answer_of, tries_in}
-use Rattle.std.proofs.lemmas.Fn.{chained_keeps}
-use Rattle.lol_memory.specs.declared.match_info.MatchInfo.{MatchInfo}
-use Rattle.lol_vm.proofs.RunSteps.{stops_answered}
-use Rattle.lol_vm.proofs.RefusedRuns.{none_refused}
-use Rattle.lol_vm.proofs.run.answer_start.Goals.{in-Dropped, in-Reported}
+use Rattle.std.proofs.Common.{◌≡◌, Bool, Err, inl, true, true≢false, refl, sym, ap, ◌∙◌}
+use Rattle.std.proofs.lemmas.Result.{IfErr-weaker, IfOk-weaker}
+use Rattle.lol_base.specs.StartTags.{StartTag}
+use Rattle.lol_machine.specs.Events.{Start}
+use Rattle.lol_machine.specs.Views.{tag_of}
+use Rattle.lol_matcher.specs.Noted.{handed_told}
+use Rattle.lol_vm.specs.ToldEvents.{reported_as}
+use Rattle.lol_vm.proofs.ToldOn.{answered_as, answered_memory, fits_as, refusal_is, refused_handed, told_with}
 use Rattle.lol_vm.proofs.run.answer_start.Goals as goal
 
-pub returns-then-refused-clause-stops : goal.returns-then-refused-clause-stops
-returns-then-refused-clause-stops c = λ s esi item_bytes before events tag r named handed.
-    let goes = c.in_ok-outcome.ensures.goes s esi item_bytes before events tag r named handed in
-    stops_answered s esi item_bytes before c.args.run.now.vm events c.args.limiter.now r.follows (Start tag) (none_refused s esi item_bytes before events r.follows.fits (Start tag) goes.goes_on.follows.fits)
+pub returns-in-Ok-clause-answers : goal.returns-in-Ok-clause-answers
+returns-in-Ok-clause-answers c =
+    IfOk-weaker c.report_of.result _ _ (λ report is ast esi a events w few.
+    let m = c.args.matcher.now in
+    let laws = c.calls_answer_alike.ensures in
+    let tag : StartTag = tag_of c.args.name.now c.args.ns c.args.aux_info true in
+    let none = fits_as laws.alike laws.goes_on ast esi a events m w tag c.in-Ok.ensures.fits in
+    record {
+      answered = is ∙ (ap (λ b. reported_as b c.start_with.new.self) c.in-Ok.ensures.was_asked ∙ answered_as laws.alike laws.goes_on ast esi a events m w (Start tag) _ c.in-Ok.ensures.answered);
+      goes_on = told_with laws.alike laws.goes_on ast esi a events m w (Start tag) (Start tag) (inl refl) none c.start_with.new.self (handed_told m.told tag) c.in-Ok.ensures.ok refl refl refl;
+    }) c.report_of.ensures.report
 
-pub returns-then-refused-clause-charged : goal.returns-then-refused-clause-charged
-returns-then-refused-clause-charged c = λ s esi item_bytes before events tag r named handed. (c.in_ok-outcome.ensures.goes s esi item_bytes before events tag r named handed).goes_on.follows.charged
+pub returns-in-Ok-clause-refused : goal.returns-in-Ok-clause-refused
+returns-in-Ok-clause-refused c =
+    IfErr-weaker c.report_of.result _ _ (λ error is ast esi a events w few.
+    let laws = c.calls_answer_alike.ensures in
+    let none = fits_as laws.alike laws.goes_on ast esi a events c.args.matcher.now w (tag_of c.args.name.now c.args.ns c.args.aux_info true) c.in-Ok.ensures.fits in
+    rw is (answered_memory _ _ none)) c.report_of.ensures.memory
 
-pub returns-clause-goes : goal.returns-clause-goes
-returns-clause-goes c = λ s esi item_bytes before events tag r named handed.
-    let goes = c.in_ok-outcome.ensures.goes s esi item_bytes before events tag r named handed in
-    let collected = chained_keeps _ (λ (xs : List MatchInfo) q. (q.0.ghost_name ≡ c.collected-1.given.0) × (q.0.now.refused ≡ false → q.0.now.items.items ≡ xs))
-    (λ xs q x v j k. search (rules, j, k)) _ _ _ (refl, λ _. c.new-collected.ensures.items) goes.called in
-    let kept : c.collected-2-1.given.0.items.items ≡ goes.infos = search (rules, collected.0, collected.1, c.if-refused.false) in
-    let told : answer_of c.match-outcome.result ≡ answer_with c.in_ok-outcome.outcome goes.infos (tries_in (machine_of c.start.new.self)) = elim c.match-outcome.branch [
-      | in-Dropped w ↦ ap answer_of w.result-is ∙ ap (λ outcome. answer_with outcome goes.infos (tries_in (machine_of c.start.new.self))) (sym w.in-Dropped.is)
-      | in-Reported w ↦ ap answer_of w.result-is ∙ (search (rules, kept, w.tries.ensures, w.in-Reported.is))
-    ] in
-    record { answered = told ∙ goes.answered; goes_on = goes.goes_on }
+pub returns-in-Err-clause-refused : goal.returns-in-Err-clause-refused
+returns-in-Err-clause-refused c = λ ast esi a events w few.
+    let laws = c.calls_answer_alike.ensures in
+    let call = c.start_with.ensures in
+    let refusal = refusal_is c.in-Err.error
+    (λ is. true≢false (sym (call.failed.0 (c.in-Err.is ∙ ap Err is)) ∙ w.well))
+    (λ is. (call.outside.0 (c.in-Err.is ∙ ap Err is)).1 c.requires)
+    (λ is. call.asked (c.in-Err.is ∙ ap Err is)) in
+    refused_handed laws.alike laws.goes_on ast esi a events c.args.matcher.now w (tag_of c.args.name.now c.args.ns c.args.aux_info true) c.in-Err.error (c.in-Err.ensures.refused refusal)

@@ -1,45 +1,37 @@
-use Rattle.lol_vm.proofs.Common.{◌≡◌, ◌≤◌, ◌<◌, ◌^◌, ◌-◌, ℕ, Bool, [], map, ap, sym, ◌∙◌, arith, on_ok_weaker, IfErr-weaker, Limiter, Selectors, IsRunOf, event_of, selectors}
-use Rattle.lol_vm.specs.RunRefusals.{allowance_of}
-use Rattle.lol_vm.specs.declared.event_run.EventRun.{EventRun}
-use Rattle.lol_vm.proofs.RefusedRuns.{stops_at_once}
-use Rattle.lol_vm.proofs.RunSteps.{released}
+use Rattle.std.proofs.Common.{◌≡◌, ◌≤◌, ◌-◌, ℕ, Bool, List, map, take, subst, arith, refl, sym, ap, ◌∙◌}
+use Rattle.std.proofs.lemmas.Result.{IfErr-weaker, on_ok_weaker}
+use Rattle.lol_machine.specs.Refusals.{Allowance, refused}
+use Rattle.lol_machine.specs.Views.{selectors}
+use Rattle.lol_matcher.specs.Refusing.{allowance}
+use Rattle.lol_vm.specs.RunRefusals.{StopsBeforeLimit, StopsFor, allowance_of}
+use Rattle.lol_vm.specs.TagEvents.{event_of}
+use Rattle.lol_vm.specs.ToldEvents.{WasTold}
+use Rattle.lol_vm.proofs.StoppedRuns.{stops_at_once}
+use Rattle.lol_vm.proofs.ToldOn.{refused_within}
 use Rattle.lol_vm.proofs.run.match_each_event.Goals as goal
 
--- the new run has answered nothing
-begun : {s : Selectors} {esi : Bool} {item_bytes usage : ℕ} {run : EventRun} (limiter : Limiter)
-    → ((before : Limiter) → before.maximum ≤ 2 ^ 64 - 1 → before.usage ≤ before.maximum → IsRunOf s esi item_bytes before run [] before)
-    → limiter.maximum < 2 ^ 64 → usage ≤ limiter.maximum → usage ≡ limiter.usage → IsRunOf s esi item_bytes limiter run [] limiter
-begun limiter made word within value = made limiter (omega (arith, word)) (omega (arith, within, value))
+pub returns-in-Err-clause-cause : goal.returns-in-Err-clause-cause
+returns-in-Err-clause-cause g c = stops_at_once (selectors c.args.ast) c.args.enable_esi_tags (allowance_of c.args.item_bytes c.args.limiter.now) (map event_of c.args.events.now)
 
-pub release-requires : goal.release-requires
-release-requires g c =
-    let r = begun c.args.limiter.now c.in-Ok.ensures c.current_usage-usage.ensures.word c.current_usage-usage.ensures.within c.current_usage-usage.ensures.value in
-    let charged = c.answer_events-answered.ensures.charged (selectors c.args.ast) c.args.enable_esi_tags c.args.item_bytes c.args.limiter.now r in
-    (released c.args.item_bytes c.args.limiter.now c.answer_events-answered.new.run.vm c.answer_events-answered.new.limiter charged).0
-
-pub prove-unreachable-requires : goal.prove-unreachable-requires
-prove-unreachable-requires g c =
-    let r = begun c.args.limiter.now c.in-Ok.ensures c.current_usage-usage.ensures.word c.current_usage-usage.ensures.within c.current_usage-usage.ensures.value in
-    let charged = c.answer_events-answered.ensures.charged (selectors c.args.ast) c.args.enable_esi_tags c.args.item_bytes c.args.limiter.now r in
-    let same = released c.args.item_bytes c.args.limiter.now c.answer_events-answered.new.run.vm c.answer_events-answered.new.limiter charged in
-    c.if-prove.true (c.current_usage.ensures.value ∙ (ap (λ (l : Limiter). l.usage) (c.release.ensures ∙ same.1) ∙ sym c.current_usage-usage.ensures.value))
-
-pub returns-in_default-clause-cause : goal.returns-in_default-clause-cause
-returns-in_default-clause-cause g c = stops_at_once (selectors c.args.ast) c.args.enable_esi_tags (allowance_of c.args.item_bytes c.args.limiter.now) (map event_of c.args.events.now)
-
-pub returns : goal.returns
-returns g c =
-    let r = begun c.args.limiter.now c.in-Ok.ensures c.current_usage-usage.ensures.word c.current_usage-usage.ensures.within c.current_usage-usage.ensures.value in
-    let result = c.answer_events-answered.result in
-    let told = c.answer_events-answered.ensures in
-    let charged = told.charged (selectors c.args.ast) c.args.enable_esi_tags c.args.item_bytes c.args.limiter.now r in
+pub returns-in-Ok : goal.returns-in-Ok
+returns-in-Ok g c =
+    let result = c.answer_events.result in
+    let told = c.answer_events.ensures in
+    let ast = c.args.ast in
+    let esi = c.args.enable_esi_tags in
+    let limiter = c.args.limiter.now in
+    let within : limiter.usage ≤ limiter.maximum = let usage = c.current_usage-usage.ensures.value in let most = c.current_usage-usage.ensures.within in omega (arith, usage, most) in
+    let left : c.remaining-remaining.result ≡ limiter.maximum - limiter.usage = c.remaining-remaining.ensures in
+    let w = c.in-Ok.ensures in
+    let same : refused (selectors ast) esi (allowance c.args.item_bytes c.remaining-remaining.result) (map event_of c.args.events.now) ≡ refused (selectors ast) esi (allowance_of c.args.item_bytes limiter) (map event_of c.args.events.now) =
+    ap (λ most. refused (selectors ast) esi (allowance c.args.item_bytes most) (map event_of c.args.events.now)) left ∙ refused_within c.args.item_bytes limiter within (selectors ast) esi (map event_of c.args.events.now) in
     record {
       again = told.again;
-      ok = on_ok_weaker result (λ ok. ok _ _ c.args.item_bytes c.args.limiter.now r) told.ok;
-      fits = on_ok_weaker result (λ fits. fits _ _ c.args.item_bytes c.args.limiter.now r) told.fits;
-      refused = IfErr-weaker result _ _ (λ stop so. so _ _ c.args.item_bytes c.args.limiter.now r) told.refused;
+      ok = on_ok_weaker result (λ ok. ok ast esi _ w) told.ok;
+      fits = on_ok_weaker result (λ fits. sym same ∙ fits ast esi _ w) told.fits;
+      refused = IfErr-weaker result _ _ (λ stop so. so ast esi _ w) told.refused;
       event = told.event;
-      cause = IfErr-weaker result _ _ (λ stop so. so _ _ c.args.item_bytes c.args.limiter.now r) told.cause;
-      due = IfErr-weaker result _ _ (λ stop so. so _ _ c.args.item_bytes c.args.limiter.now r) told.due;
-      usage = c.release.ensures ∙ (released c.args.item_bytes c.args.limiter.now c.answer_events-answered.new.run.vm c.answer_events-answered.new.limiter charged).1;
+      cause = IfErr-weaker result _ _ (λ stop so. subst (StopsFor stop.cause stop.event) same (so ast esi _ w)) told.cause;
+      due = IfErr-weaker result _ _ (λ stop so. subst (StopsBeforeLimit (selectors ast) esi (map event_of c.args.events.now) stop.cause stop.event) same (so ast esi _ w)) told.due;
+      usage = refl;
     }

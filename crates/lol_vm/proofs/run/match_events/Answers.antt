@@ -1,9 +1,13 @@
-use Rattle.lol_vm.proofs.Common.{rules, ◌≡◌, List, false, refl, sym, ap, ◌∙◌, subst, map, take, answers, answer_of, event_of, selectors, refused}
+use Rattle.std.proofs.Common.{rules, ◌≡◌, List, false, refl, sym, ap, ◌∙◌, subst, map, take}
+use Rattle.lol_machine.specs.Answers.{answers}
+use Rattle.lol_machine.specs.Refusals.{refused}
+use Rattle.lol_machine.specs.Views.{selectors}
+use Rattle.lol_vm.specs.TagEvents.{answer_of, event_of}
 use Rattle.std.proofs.lemmas.Fn.{chained_keeps}
 use Rattle.lol_vm.specs.declared.events.RunRefusal.{RunRefusal}
 use Rattle.lol_vm.specs.declared.events.TagReport.{TagReport}
 use Rattle.lol_vm.specs.RunRefusals.{IsRefusedAt, allowance_of}
-use Rattle.lol_vm.proofs.RefusedRuns.{stops_at_once}
+use Rattle.lol_vm.proofs.StoppedRuns.{stops_at_once}
 use Rattle.lol_vm.proofs.run.match_events.Goals as goal
 
 pub returns-in-Ok-answered-clause-ok : goal.returns-in-Ok-answered-clause-ok

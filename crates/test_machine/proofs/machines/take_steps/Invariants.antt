@@ -1,5 +1,5 @@
 use Rattle.std.proofs.Common.{◌≡◌}
-use Rattle.lol_vm.specs.Vms.{slot_bytes}
+use Rattle.lol_machine.specs.Vms.{slot_bytes}
 use Rattle.test_machine.proofs.machines.take_steps.Given as goal
 
 abbrev pub invariant-loop-step : goal.invariant-loop-step

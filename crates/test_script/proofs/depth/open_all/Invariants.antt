@@ -1,5 +1,5 @@
 use Rattle.std.proofs.Common.{◌≡◌}
-use Rattle.lol_vm.specs.Vms.{slot_bytes}
+use Rattle.lol_machine.specs.Vms.{slot_bytes}
 use Rattle.test_script.proofs.depth.open_all.Given as goal
 
 abbrev pub invariant-loop-place : goal.invariant-loop-place

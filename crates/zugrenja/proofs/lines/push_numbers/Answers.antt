@@ -3,7 +3,7 @@ use Rattle.std.specs.List.{flat_map}
 use Rattle.std.proofs.lemmas.List.{append_assoc}
 use Rattle.std.proofs.lemmas.Result.{on_ok_weaker}
 use Rattle.lol_memory.specs.declared.match_info.MatchInfo.{MatchInfo}
-use Rattle.lol_vm.specs.Views.{match_of}
+use Rattle.lol_machine.specs.Views.{match_of}
 use Rattle.zugrenja.specs.Lines.{later_number, numbers}
 use Rattle.zugrenja.proofs.Numbers.{numbers_are}
 use Rattle.zugrenja.proofs.lines.push_numbers.Goals as goal

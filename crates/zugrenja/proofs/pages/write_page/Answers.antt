@@ -2,7 +2,7 @@
 use Rattle.std.proofs.Common.{◌≡◌, ℕ, List, length, subst, ap, sym, ◌∙◌, true}
 use Rattle.std.specs.Io.KnownBytes.{Appends}
 use Rattle.lol_matcher.specs.Told.{Matching}
-use Rattle.lol_vm.specs.Views.{selectors}
+use Rattle.lol_machine.specs.Views.{selectors}
 use Rattle.lol_page_matcher.specs.PageMatches.{PageMatch, page_matches}
 use Rattle.zugrenja.specs.Lines.{page_lines}
 use Rattle.zugrenja.specs.PageReadings.{matches_in}

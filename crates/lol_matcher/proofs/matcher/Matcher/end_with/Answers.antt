@@ -1,9 +1,9 @@
 use Rattle.std.proofs.Common.{◌≡◌, false, ◌∙◌, refl, sym, ap, subst}
-use Rattle.lol_vm.specs.Documents.{Document}
-use Rattle.lol_vm.specs.Events.{End}
-use Rattle.lol_vm.specs.ReportRoom.{HoldsEachReport}
-use Rattle.lol_vm.specs.Views.{selectors}
-use Rattle.lol_vm.specs.Vms.{open_after}
+use Rattle.lol_machine.specs.Documents.{Document}
+use Rattle.lol_machine.specs.Events.{End}
+use Rattle.lol_machine.specs.ReportRoom.{HoldsEachReport}
+use Rattle.lol_machine.specs.Views.{selectors}
+use Rattle.lol_machine.specs.Vms.{open_after}
 use Rattle.lol_matcher.specs.LastLaws.{last_end}
 use Rattle.lol_matcher.specs.Noted.{ended_told}
 use Rattle.lol_matcher.specs.Told.{History, elements_of, heard}

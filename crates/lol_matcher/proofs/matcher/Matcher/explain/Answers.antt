@@ -3,8 +3,8 @@ use Rattle.std.specs.Prelude.{IfOk, reverse}
 use Rattle.lol_reasons.specs.Explanations.{Text, added_by}
 use Rattle.lol_reasons.specs.Numbered.{HoldsItems, reason_shown}
 use Rattle.lol_stack.specs.Stacks.{element_data_of}
-use Rattle.lol_vm.specs.Views.{selectors}
-use Rattle.lol_vm.specs.Vms.{Stands}
+use Rattle.lol_machine.specs.Views.{selectors}
+use Rattle.lol_machine.specs.Vms.{Stands}
 use Rattle.lol_matcher.specs.Explaining.{AreNumbered, numbers_in, reasons_told}
 use Rattle.lol_matcher.specs.Told.{Told, numbers_open}
 use Rattle.lol_matcher.specs.declared.open_element.OpenElement.{OpenElement}

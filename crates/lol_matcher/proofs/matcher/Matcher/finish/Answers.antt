@@ -1,11 +1,11 @@
 use Rattle.std.proofs.Common.{rules, ◌≡◌, [], ◌∷◌, ◌++◌, length, map, Bool, true, true≢false, Some, None, refl, sym, ap, subst, ◌∙◌, vec_capacity}
 use Rattle.lol_base.specs.StartTags.{RangesAreInside, StartTag}
-use Rattle.lol_vm.specs.Answers.{document}
-use Rattle.lol_vm.specs.Events.{Start, has_content}
-use Rattle.lol_vm.specs.FreeTags.{AreFlat}
-use Rattle.lol_vm.specs.ReportRoom.{HoldsEachReport}
-use Rattle.lol_vm.specs.Views.{selectors, tag_of}
-use Rattle.lol_vm.specs.Vms.{HasOpen, IsPending, IsTriedAtMost, data_in, tries_in}
+use Rattle.lol_machine.specs.Answers.{document}
+use Rattle.lol_machine.specs.Events.{Start, has_content}
+use Rattle.lol_machine.specs.FreeTags.{AreFlat}
+use Rattle.lol_machine.specs.ReportRoom.{HoldsEachReport}
+use Rattle.lol_machine.specs.Views.{selectors, tag_of}
+use Rattle.lol_machine.specs.Vms.{HasOpen, IsPending, IsTriedAtMost, data_in, tries_in}
 use Rattle.lol_laws.specs.AskedRuns.{bare_tag}
 use Rattle.lol_matcher.specs.Answering.{KeepsOne}
 use Rattle.lol_matcher.specs.Keeping.{ForRequest, IsRefusal, IsToldAs, Runs, RunsPast, allowed, ids_of}

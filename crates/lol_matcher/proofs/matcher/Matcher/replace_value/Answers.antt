@@ -1,6 +1,6 @@
 use Rattle.std.proofs.Common.{rules, map, ap, ◌∙◌, refl, sym, subst}
-use Rattle.lol_vm.specs.Views.{selectors}
-use Rattle.lol_vm.specs.Vms.{data_in}
+use Rattle.lol_machine.specs.Views.{selectors}
+use Rattle.lol_machine.specs.Vms.{data_in}
 use Rattle.lol_matcher.specs.Last.{IsLast}
 use Rattle.lol_matcher.specs.Told.{heard}
 use Rattle.lol_matcher.specs.declared.open_element.OpenElement.{OpenElement}

@@ -4,9 +4,9 @@ use Rattle.lol_base.specs.Ascending.{ascending_once}
 use Rattle.lol_reasons.specs.Explanations.{Text}
 use Rattle.lol_reasons.specs.Numbered.{items_of}
 use Rattle.lol_reasons.specs.ReasonLaws.{ids_of_reasons}
-use Rattle.lol_vm.specs.Answers.{document}
-use Rattle.lol_vm.specs.Documents.{element_of}
-use Rattle.lol_vm.specs.Views.{match_of, selectors}
+use Rattle.lol_machine.specs.Answers.{document}
+use Rattle.lol_machine.specs.Documents.{element_of}
+use Rattle.lol_machine.specs.Views.{match_of, selectors}
 use Rattle.lol_matcher.specs.Explaining.{ids_under, numbers_in, reasons_told}
 use Rattle.lol_matcher.specs.Told.{Told}
 use Rattle.lol_matcher.proofs.Finishing.{waits_dropped}

@@ -1,11 +1,11 @@
 use Rattle.std.proofs.Common.{◌≡◌, [], ◌∷◌, ◌++◌, length, map, ap, ◌∙◌, false, true≢false, refl, sym, subst, vec_capacity}
 use Rattle.lol_base.specs.StartTags.{StartTag}
-use Rattle.lol_vm.specs.Answers.{document}
+use Rattle.lol_machine.specs.Answers.{document}
 use Rattle.lol_laws.specs.AskedRuns.{bare_tag}
-use Rattle.lol_vm.specs.Events.{Start, has_content}
-use Rattle.lol_vm.specs.ReportRoom.{HoldsEachReport}
-use Rattle.lol_vm.specs.Views.{selectors}
-use Rattle.lol_vm.specs.Vms.{HasOpen, IsTriedAtMost, data_in, tries_in}
+use Rattle.lol_machine.specs.Events.{Start, has_content}
+use Rattle.lol_machine.specs.ReportRoom.{HoldsEachReport}
+use Rattle.lol_machine.specs.Views.{selectors}
+use Rattle.lol_machine.specs.Vms.{HasOpen, IsTriedAtMost, data_in, tries_in}
 use Rattle.lol_matcher.specs.Answering.{KeepsOne}
 use Rattle.lol_matcher.specs.Keeping.{ForTag, Runs, Tells, allowed}
 use Rattle.lol_matcher.specs.LastLaws.{last_dropped, last_start}

@@ -1,10 +1,10 @@
 use Rattle.std.proofs.Common.{rules, ◌≡◌, Bool, length, map, ap, ◌∙◌, true≢false, refl, sym, subst, vec_capacity}
 use Rattle.lol_base.specs.StartTags.{RangesAreInside, StartTag}
-use Rattle.lol_vm.specs.Events.{has_content}
-use Rattle.lol_vm.specs.FreeTags.{AreFlat}
-use Rattle.lol_vm.specs.ReportRoom.{HoldsEachReport}
-use Rattle.lol_vm.specs.Views.{selectors}
-use Rattle.lol_vm.specs.Vms.{HasOpen, IsTriedAtMost, data_in, is_asked_for, tries_in}
+use Rattle.lol_machine.specs.Events.{has_content}
+use Rattle.lol_machine.specs.FreeTags.{AreFlat}
+use Rattle.lol_machine.specs.ReportRoom.{HoldsEachReport}
+use Rattle.lol_machine.specs.Views.{selectors}
+use Rattle.lol_machine.specs.Vms.{HasOpen, IsTriedAtMost, data_in, is_asked_for, tries_in}
 use Rattle.lol_matcher.specs.Answering.{KeepsOne}
 use Rattle.lol_matcher.specs.Keeping.{ForHandedTag, IsRefusal, IsToldAs, Runs, allowed}
 use Rattle.lol_matcher.specs.LastLaws.{last_start}

@@ -4,10 +4,10 @@ use Rattle.std.proofs.lemmas.List.{append-nil}
 use Rattle.lol_base.specs.StartTags.{StartTag, bytes_of}
 use Rattle.lol_base.specs.declared.namespace.Namespace.{Namespace}
 use Rattle.lol_stack.specs.Calls.{IsCalledAtEach}
-use Rattle.lol_vm.specs.Answers.{answer, document}
-use Rattle.lol_vm.specs.Events.{Start}
-use Rattle.lol_vm.specs.Views.{match_of, selectors}
-use Rattle.lol_vm.specs.Vms.{open_after}
+use Rattle.lol_machine.specs.Answers.{answer, document}
+use Rattle.lol_machine.specs.Events.{Start}
+use Rattle.lol_machine.specs.Views.{match_of, selectors}
+use Rattle.lol_machine.specs.Vms.{open_after}
 use Rattle.lol_matcher.specs.Last.{matches_in}
 use Rattle.lol_matcher.specs.Noted.{handed_told}
 use Rattle.lol_matcher.specs.Refusing.{refusal_of}

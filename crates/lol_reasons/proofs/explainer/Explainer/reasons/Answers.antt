@@ -4,12 +4,12 @@ use Rattle.std.proofs.lemmas.Result.{IfOk-weaker}
 use Rattle.lol_program.specs.ProgramViews.{program_shown}
 use Rattle.lol_program.specs.declared.program.Program.{Program}
 use Rattle.lol_stack.specs.Stacks.{items_in}
-use Rattle.lol_vm.specs.Answers.{document, matching_ids}
-use Rattle.lol_vm.specs.Documents.{element_of}
-use Rattle.lol_vm.specs.Events.{has_content}
-use Rattle.lol_vm.specs.Follows.{opens}
-use Rattle.lol_vm.specs.Machines.{items_shown}
-use Rattle.lol_vm.specs.Vms.{program_in, stack_in}
+use Rattle.lol_machine.specs.Answers.{document, matching_ids}
+use Rattle.lol_machine.specs.Documents.{element_of}
+use Rattle.lol_machine.specs.Events.{has_content}
+use Rattle.lol_machine.specs.Answers.{opens}
+use Rattle.lol_machine.specs.Machines.{items_shown}
+use Rattle.lol_machine.specs.Vms.{program_in, stack_in}
 use Rattle.lol_reasons.specs.Matched.{IsAround}
 use Rattle.lol_reasons.proofs.Reasons.{ids_of_matches}
 use Rattle.lol_reasons.proofs.Telling.{around_is}

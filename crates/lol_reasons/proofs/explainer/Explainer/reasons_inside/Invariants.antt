@@ -2,7 +2,7 @@ use Rattle.std.proofs.Common.{◌≡◌, List, map, take}
 use Rattle.lol_instructions.specs.Tests.{Element}
 use Rattle.lol_program.specs.Paths.{Path, Selectors}
 use Rattle.lol_program.specs.ProgramViews.{program_shown}
-use Rattle.lol_vm.specs.Machines.{items_shown}
+use Rattle.lol_machine.specs.Machines.{items_shown}
 use Rattle.lol_reasons.specs.Explanations.{Text}
 use Rattle.lol_reasons.specs.Matched.{IsAround}
 use Rattle.lol_reasons.specs.Numbered.{HasMatchedItems, reason_shown}

@@ -1,6 +1,6 @@
 use Rattle.std.proofs.Common.{◌≡◌, length, map, reverse, sym, ap, ◌∙◌, subst, arith}
 use Rattle.std.proofs.lemmas.List.{length-map, length-reverse, length-take-le, take-map}
-use Rattle.lol_vm.specs.Machines.{item_shown}
+use Rattle.lol_machine.specs.Machines.{item_shown}
 use Rattle.lol_program.specs.ProgramViews.{program_shown}
 use Rattle.lol_instructions.specs.Tests.{Element}
 use Rattle.lol_reasons.proofs.ClimbingLemmas.{same_lengths}

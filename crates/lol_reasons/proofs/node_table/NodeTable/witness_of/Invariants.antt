@@ -2,7 +2,7 @@ use Rattle.std.proofs.Common.{◌≡◌, ◌≤◌, List, length, map}
 use Rattle.lol_instructions.specs.Tests.{Element}
 use Rattle.lol_program.specs.Paths.{Path, Selectors}
 use Rattle.lol_program.specs.ProgramViews.{program_shown}
-use Rattle.lol_vm.specs.Machines.{item_shown, items_shown}
+use Rattle.lol_machine.specs.Machines.{item_shown, items_shown}
 use Rattle.lol_reasons.specs.Matched.{HasMatched}
 use Rattle.lol_reasons.proofs.Climbs.{Climbs}
 use Rattle.lol_reasons.proofs.node_table.NodeTable.witness_of.Given as goal

@@ -6,9 +6,9 @@ use Rattle.lol_matcher.specs.Plain.{matches_for}
 use Rattle.lol_reasons.specs.Explanations.{Reason}
 use Rattle.lol_reasons.specs.Numbered.{reason_shown}
 use Rattle.lol_reasons.specs.declared.explainer.Reason as code
-use Rattle.lol_vm.specs.Answers.{Match}
-use Rattle.lol_vm.specs.ReportRoom.{HoldsEachReport}
-use Rattle.lol_vm.specs.Views.{selectors}
+use Rattle.lol_machine.specs.Answers.{Match}
+use Rattle.lol_machine.specs.ReportRoom.{HoldsEachReport}
+use Rattle.lol_machine.specs.Views.{selectors}
 use Rattle.lol_script.specs.AnswerTexts.{end_of_start, started_text}
 use Rattle.lol_script.specs.Explaining.{lines_by}
 use Rattle.lol_script.specs.Output.{comma_list, lines_of, shown_match}

@@ -4,7 +4,7 @@ use Rattle.std.proofs.lemmas.Result.{on_ok_weaker}
 use Rattle.lol_matcher.specs.Explaining.{reasons_told}
 use Rattle.lol_matcher.specs.Plain.{matches_for}
 use Rattle.lol_memory.specs.declared.match_info.MatchInfo.{MatchInfo}
-use Rattle.lol_vm.specs.Views.{match_of}
+use Rattle.lol_machine.specs.Views.{match_of}
 use Rattle.lol_script.specs.AnswerTexts.{started_text}
 use Rattle.lol_script.specs.Explaining.{IsReasoned, lines_by}
 use Rattle.lol_script.specs.Output.{lines_of}

@@ -1,5 +1,5 @@
 use Rattle.std.proofs.Common.{rules, ◌≡◌, ◌++◌, ◌∷◌, [], List, ℕ, refl, sym, ap, ◌∙◌}
-use Rattle.lol_vm.specs.Events.{End}
+use Rattle.lol_machine.specs.Events.{End}
 use Rattle.lol_script.proofs.AnswerLines.{refused_stays}
 use Rattle.lol_script.proofs.EndTags.{ended_more, end_written, few_before}
 use Rattle.lol_script.proofs.script_run.ScriptRun.take_end.Goals as goal

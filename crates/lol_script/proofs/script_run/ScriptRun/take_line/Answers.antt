@@ -2,8 +2,8 @@ use Rattle.std.proofs.Common.{rules, ◌≡◌, ◌≢◌, ◌==◌, ◌++◌, �
 use Rattle.std.specs.Global.{Vec}
 use Rattle.lol_base.specs.declared.start_tag.AttributeOutline.{AttributeOutline}
 use Rattle.lol_program.specs.Paths.{Selectors}
-use Rattle.lol_vm.specs.Events.{Event}
-use Rattle.lol_vm.specs.Events as events
+use Rattle.lol_machine.specs.Events.{Event}
+use Rattle.lol_machine.specs.Events as events
 use Rattle.lol_script.specs.Answering.{Answers, IsWritten}
 use Rattle.lol_script.specs.Lines.{start_tag_of}
 use Rattle.lol_script.specs.Scripts.{Script, with_event}

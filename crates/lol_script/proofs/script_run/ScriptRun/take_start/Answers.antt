@@ -1,6 +1,6 @@
 use Rattle.std.proofs.Common.{rules, ◌≡◌, Ok, Err, refl, sym, ◌∙◌, subst}
 use Rattle.std.proofs.lemmas.Result.{on_ok_weaker}
-use Rattle.lol_vm.specs.Events.{Start}
+use Rattle.lol_machine.specs.Events.{Start}
 use Rattle.lol_script.specs.Answering.{Answers}
 use Rattle.lol_script.specs.Lines.{start_tag_of}
 use Rattle.lol_script.specs.Scripts.{with_event}

@@ -5,7 +5,7 @@ use Rattle.lol_matcher.specs.Told.{Matching}
 use Rattle.lol_reasons.specs.Explanations.{added_by}
 use Rattle.lol_program.specs.declared.ast.Ast.{Ast}
 use Rattle.lol_reasons.specs.Numbered.{HasItemsOf, HoldsItems, texts_in}
-use Rattle.lol_vm.specs.Views.{selectors}
+use Rattle.lol_machine.specs.Views.{selectors}
 use Rattle.zugrenja_c.specs.Sessions.{HasSelectorsOf, IsBuiltFrom}
 use Rattle.zugrenja_c.proofs.Starting.{if_ok}
 use Rattle.zugrenja_c.proofs.adding.Adding.build.Goals as goal

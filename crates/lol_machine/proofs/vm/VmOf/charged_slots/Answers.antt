@@ -1,0 +1,5 @@
+use Rattle.std.proofs.Common.{rules}
+use Rattle.lol_machine.proofs.vm.VmOf.charged_slots.Goals as goal
+
+pub returns : goal.returns
+returns c = search rules

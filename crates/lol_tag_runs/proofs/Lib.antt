@@ -1,4 +1,0 @@
-mod Common
-mod Finding
-mod InstructionLists
-mod RangeSteps

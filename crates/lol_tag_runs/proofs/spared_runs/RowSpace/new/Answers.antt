@@ -1,5 +1,0 @@
-use Rattle.std.proofs.Common.{rules}
-use Rattle.lol_tag_runs.proofs.spared_runs.RowSpace.new.Goals as goal
-
-pub returns-clause-room : goal.returns-clause-room
-returns-clause-room c = search rules

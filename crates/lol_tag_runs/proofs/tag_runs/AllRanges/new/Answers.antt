@@ -1,5 +1,0 @@
-use Rattle.std.proofs.Common.{rules}
-use Rattle.lol_tag_runs.proofs.tag_runs.AllRanges.new.Goals as goal
-
-pub returns : goal.returns
-returns c = search rules

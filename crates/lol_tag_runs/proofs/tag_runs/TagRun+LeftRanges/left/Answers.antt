@@ -1,5 +1,0 @@
-use Rattle.std.proofs.Common.{rules}
-use Rattle.lol_tag_runs.proofs.tag_runs.TagRun+LeftRanges.left.Goals as goal
-
-pub returns-clause-ranges : goal.returns-clause-ranges
-returns-clause-ranges c = search rules

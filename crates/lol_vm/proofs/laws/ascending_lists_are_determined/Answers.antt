@@ -1,5 +1,0 @@
-use Rattle.lol_vm.proofs.Common.{ascending_is_determined}
-use Rattle.lol_vm.proofs.laws.ascending_lists_are_determined.Goals as goal
-
-pub returns : goal.returns
-returns c = ascending_is_determined

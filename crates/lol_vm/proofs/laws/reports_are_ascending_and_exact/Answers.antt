@@ -1,5 +1,0 @@
-use Rattle.lol_vm.proofs.Common.{every_report}
-use Rattle.lol_vm.proofs.laws.reports_are_ascending_and_exact.Goals as goal
-
-pub returns : goal.returns
-returns c = every_report

@@ -1,5 +1,0 @@
-use Rattle.lol_vm.proofs.Children as proved
-use Rattle.lol_vm.proofs.machine_laws.documents_are_ordered.Goals as goal
-
-pub returns : goal.returns
-returns c = proved.documents_are_ordered

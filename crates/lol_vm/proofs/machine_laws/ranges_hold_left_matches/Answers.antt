@@ -1,5 +1,0 @@
-use Rattle.lol_vm.proofs.Held as proved
-use Rattle.lol_vm.proofs.machine_laws.ranges_hold_left_matches.Goals as goal
-
-pub returns : goal.returns
-returns c = proved.ranges_hold_left_matches

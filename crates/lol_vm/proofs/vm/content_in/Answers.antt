@@ -1,5 +1,0 @@
-use Rattle.std.proofs.Common.{rules}
-use Rattle.lol_vm.proofs.vm.content_in.Goals as goal
-
-pub returns-in-Html : goal.returns-in-Html
-returns-in-Html c = search rules

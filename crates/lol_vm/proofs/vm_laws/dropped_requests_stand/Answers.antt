@@ -1,5 +1,0 @@
-use Rattle.lol_vm.proofs.VmData.{pending_stands}
-use Rattle.lol_vm.proofs.vm_laws.dropped_requests_stand.Goals as goal
-
-pub returns : goal.returns
-returns g c = pending_stands

@@ -1,5 +1,0 @@
-use Rattle.lol_vm.proofs.Whole.{ranges_hold_once}
-use Rattle.lol_vm.proofs.vm_laws.ranges_hold_once.Goals as goal
-
-pub returns : goal.returns
-returns g c = ranges_hold_once

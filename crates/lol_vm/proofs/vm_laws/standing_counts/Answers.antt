@@ -1,5 +1,0 @@
-use Rattle.lol_vm.proofs.StackCounting.{standing_counts}
-use Rattle.lol_vm.proofs.vm_laws.standing_counts.Goals as goal
-
-pub returns : goal.returns
-returns g c = standing_counts

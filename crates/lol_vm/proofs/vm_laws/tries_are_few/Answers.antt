@@ -1,5 +1,0 @@
-use Rattle.lol_vm.proofs.Whole.{tries_are_few}
-use Rattle.lol_vm.proofs.vm_laws.tries_are_few.Goals as goal
-
-pub returns : goal.returns
-returns c = tries_are_few
