@@ -1,4 +1,4 @@
-//! Laws over the definitions of lol_vm: what holds of all answers, with rows or without, whatever machine gives them.
+//! Laws over the definitions of lol_machine: what holds of all answers, with rows or without, whatever machine gives them.
 #![tactic(auto)]
 
 pub mod key_laws;
