@@ -15,7 +15,7 @@ from concurrent.futures import ThreadPoolExecutor
 # The modules whose contracts are rows.
 ROWS = [
     ("lol_css", "rows"),
-    ("lol_laws", "worked_keys"),
+    ("lol_reasons", "worked_keys"),
     ("lol_reasons", "rows"),
     ("lol_script", "laws"),
     ("lol_tags", "rows"),

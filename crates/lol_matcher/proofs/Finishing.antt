@@ -12,7 +12,7 @@ use Rattle.lol_machine.specs.declared.error.AuxStartTagInfoRequest.{AuxStartTagI
 use Rattle.lol_matcher.specs.Keeping.{Waits, Runs, RunsPast, ids_of}
 use Rattle.lol_matcher.specs.Told.{Told, heard, with_dropped}
 use Rattle.lol_matcher.specs.declared.open_element.OpenElement.{OpenElement}
-use Rattle.lol_laws.specs.AskedRuns.{bare_tag}
+use Rattle.lol_reasons.specs.AskedRuns.{bare_tag}
 
 -- A tag waits, and its request with it.
 pub record IsWaiting {T : Type 0} (told : Told) (vm : Vm (OpenElement T)) (request : AuxStartTagInfoRequest (OpenElement T)) : Type 0 where

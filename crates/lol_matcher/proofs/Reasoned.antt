@@ -20,7 +20,7 @@ use Rattle.lol_machine.specs.Events.{Event, Start, End, has_content}
 use Rattle.lol_machine.specs.Laws.{ids_of}
 use Rattle.lol_machine.specs.Standing.{Descend, IsOrdered}
 use Rattle.lol_machine.specs.Views.{match_of, selectors}
-use Rattle.lol_laws.specs.AskedRuns.{bare_tag}
+use Rattle.lol_reasons.specs.AskedRuns.{bare_tag}
 use Rattle.lol_instructions.specs.declared.tries.Tries.{Tries}
 use Rattle.lol_reasons.specs.Explanations.{Added, Reason, Text, added_by, explanations, explanations_from, reasons, reasons_at}
 use Rattle.lol_reasons.specs.Numbered.{HasItemsOf}

@@ -15,7 +15,7 @@ use Rattle.lol_instructions.specs.Compounds.{Decides, all_hold, by_names, is_ope
 use Rattle.lol_instructions.specs.Tests.{Element, is_html}
 use Rattle.lol_instructions.specs.declared.name_value.NameValue.{NameValue}
 use Rattle.lol_instructions.specs.declared.name_value.NameValue.TheVariants.{True, False, Open}
-use Rattle.lol_laws.specs.AskedRuns.{AreTold, AreToldFrom, AskedRunsAnswerAlike, IsToldOf, ToldGoesOn, bare_tag}
+use Rattle.lol_reasons.specs.AskedRuns.{AreTold, AreToldFrom, AskedRunsAnswerAlike, IsToldOf, ToldGoesOn, bare_tag}
 use Rattle.lol_program.specs.Paths.{Path, First, Then, Selectors, last_compound}
 use Rattle.lol_program.specs.Programs.{AreClosed}
 use Rattle.lol_program.specs.ValueLaws.{values_are_by_names, values_decide}

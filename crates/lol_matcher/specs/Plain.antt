@@ -2,7 +2,7 @@
 use Rattle.std.specs.Prelude.{◌≡◌, Bool, List, map, flat_map}
 use Rattle.lol_base.specs.Ascending.{ascending_once}
 use Rattle.lol_base.specs.StartTags.{StartTag}
-use Rattle.lol_laws.specs.AskedRuns.{AreTold}
+use Rattle.lol_reasons.specs.AskedRuns.{AreTold}
 use Rattle.lol_program.specs.Asts.{is_with_rows}
 use Rattle.lol_program.specs.Conditions.{pairs_under}
 use Rattle.lol_program.specs.Nodes.{selectors_of}

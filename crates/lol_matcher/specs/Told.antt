@@ -6,7 +6,7 @@ use Rattle.lol_instructions.specs.Tests.{Element}
 use Rattle.lol_memory.specs.declared.match_info.MatchInfo.{MatchInfo}
 use Rattle.lol_program.specs.declared.ast.Ast.{Ast}
 use Rattle.lol_machine.specs.Answers.{document}
-use Rattle.lol_laws.specs.AskedRuns.{bare_tag}
+use Rattle.lol_reasons.specs.AskedRuns.{bare_tag}
 use Rattle.lol_machine.specs.Events.{Event, Start}
 use Rattle.lol_machine.specs.Views.{selectors}
 use Rattle.lol_matcher.specs.declared.open_element.OpenElement.{OpenElement}

@@ -5,10 +5,9 @@ ghost use Rattle.lol_machine.specs.Standing.{DocumentsAreOrdered};
 ghost use Rattle.lol_machine.specs.VmLaws.{DataChangeNothing, DataKeepOpen, DataKeepRequests, LastDataAreLent, LastDataChange, PendingStands, SlotsAreOfDepth, StandingCounts, StandingHasOpen};
 ghost use Rattle.lol_reasons.specs.NumberingLaws.{NumbersNameWhatMatches};
 ghost use Rattle.lol_reasons.specs.ReasonLaws.{EachHasOneReason};
-ghost use Rattle.lol_laws.specs.AskedRuns.{AskedRunsAnswerAlike, ToldGoesOn};
+ghost use Rattle.lol_reasons.specs.AskedRuns.{AskedRunsAnswerAlike, ToldGoesOn};
 ghost use Rattle.lol_matcher.specs.Plain.{ItemsAnswerAsTexts, ToldIsExplainedAlike};
 
-use lol_laws::run_laws::asked_runs_answer_alike;
 use lol_machine::machine_laws::documents_are_ordered;
 use lol_machine::vm_laws::{
     data_change_nothing, dropped_requests_stand, last_data_are_lent, reports_are_few,
@@ -18,6 +17,7 @@ use lol_reasons::laws::{
     innermost_witnesses_are_known, numbers_change_reports_alone, numbers_name_what_matches,
     reasons_explain_reports, texts_add_pairs, witnesses_say_what_matches,
 };
+use lol_reasons::run_laws::asked_runs_answer_alike;
 
 /// A matcher that is told of each tag of a list, and of the attributes of a start tag at least if it asks for them and they are at hand,
 /// answers as a run over that list (`match_events` of lol_vm). The same tag is refused first.

@@ -10,7 +10,7 @@ use Rattle.std.proofs.lemmas.Slice.Eq.{bytes_eq-Decides}
 use Rattle.lol_base.specs.LocalNames.{Name, same_local_name}
 use Rattle.lol_base.specs.declared.namespace.Namespace.{Namespace}
 use Rattle.lol_base.specs.declared.namespace.Namespace.TheVariants.{Html, Svg, MathML}
-use Rattle.lol_name_map.specs.NameMaps.{value_of, IsPutAt}
+use Rattle.lol_stack.specs.NameMaps.{value_of, IsPutAt}
 use Rattle.lol_page.specs.Namespaces.{OpenElement, is_html, html_part, around, inside, closed_at, closed_by, shields}
 use Rattle.lol_page.specs.Elements.{element_of, elements_in, elements_of, innermost_holds_html, found_in, depth_by, shield_depth, html_element, point_element, IsLinked, IsSound}
 use Rattle.lol_page.specs.declared.open_elements.Found.{Found}

@@ -1,7 +1,7 @@
 -- The open elements, as the code keeps them.
 use Rattle.std.specs.Prelude.{ℕ, ◌≡◌, ◌+◌, Bool, true, if◌then◌else◌, List, [], ◌∷◌, length, map, reverse, Option, Some, None}
 use Rattle.lol_base.specs.LocalNames.{Name, same_local_name}
-use Rattle.lol_name_map.specs.NameMaps.{value_of}
+use Rattle.lol_stack.specs.NameMaps.{value_of}
 use Rattle.lol_page.specs.Namespaces.{OpenElement, is_html, is_point_in}
 use Rattle.lol_page.specs.declared.open_elements.Found.{Found}
 use Rattle.lol_page.specs.declared.open_elements.OpenItem.{OpenItem}

@@ -1,13 +1,13 @@
 //! The open elements.
 
 ghost use Rattle.std.specs.Prelude.{◌≡◌, ◌≢◌, ◌+◌, ◌-◌, ◌<◌, ◌∷◌, [], Some, None, if◌then◌else◌, length, drop, reverse, OnOk, IfOk, option_copied};
-ghost use Rattle.lol_name_map.specs.NameMaps.{value_of, IsPutAt};
+ghost use Rattle.lol_stack.specs.NameMaps.{value_of, IsPutAt};
 ghost use Rattle.lol_page.specs.Elements.{IsSound, elements_of, first_of, innermost_holds_html, depth_by, shield_depth, html_element, point_element};
 ghost use Rattle.lol_page.specs.Namespaces as names;
 
 use crate::namespaces::{entered, is_html, is_point, takes_html};
 use lol_base::{LocalName, Namespace};
-use lol_name_map::NameMap;
+use lol_stack::NameMap;
 use std::alloc::{AllocError, Global};
 
 // The innermost open element of a name: how many elements are open up to it, and whether it is one of HTML.

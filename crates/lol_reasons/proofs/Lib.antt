@@ -1,3 +1,11 @@
+mod ToldAlike
+mod ContentMarks
+mod Closings
+mod OneId
+mod Unasked
+mod ToldRuns
+mod Counting
+mod TriedNodes
 mod WitnessLemmas
 mod Reasons
 mod ClimbingLemmas

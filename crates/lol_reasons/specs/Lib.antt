@@ -1,3 +1,8 @@
+pub mod RunLaws
+pub mod AskedRuns
+pub mod Calls
+pub mod KeyLaws
+pub mod WorkedKeys
 pub mod Witnesses
 pub mod Explanations
 pub mod WitnessLaws

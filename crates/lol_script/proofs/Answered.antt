@@ -4,7 +4,7 @@ use Rattle.std.specs.Prelude.{◌&&◌, not}
 use Rattle.lol_base.specs.StartTags.{StartTag}
 use Rattle.lol_base.specs.declared.namespace.Namespace.{Namespace}
 use Rattle.lol_instructions.specs.Tries.{names_counted, attributes_counted}
-use Rattle.lol_laws.specs.AskedRuns.{bare_tag}
+use Rattle.lol_reasons.specs.AskedRuns.{bare_tag}
 use Rattle.lol_matcher.specs.Answering as answering
 use Rattle.lol_matcher.specs.Answering.{IsAnsweredAfter, OpensFor, OpensStart, refused_with, told_after, with_told}
 use Rattle.lol_matcher.specs.Keeping.{IsRefusal}

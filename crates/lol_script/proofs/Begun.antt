@@ -3,7 +3,7 @@ use Rattle.std.proofs.Common.{◌≡◌, ℕ, Bool, true, false, List, [], ◌�
 use Rattle.std.specs.Prelude.{IfSome, IsSome}
 use Rattle.std.specs.List.{concat}
 use Rattle.lol_base.specs.MemberLaws.{among_too, distinct_from_pairs, same_length}
-use Rattle.lol_laws.specs.AskedRuns.{AskedRunsAnswerAlike}
+use Rattle.lol_reasons.specs.AskedRuns.{AskedRunsAnswerAlike}
 use Rattle.lol_matcher.specs.Plain.{ItemsAnswerAsTexts, ToldIsExplainedAlike}
 use Rattle.lol_matcher.specs.Refusing.{allowance}
 use Rattle.lol_program.specs.Asts.{is_with_rows, nodes_of}

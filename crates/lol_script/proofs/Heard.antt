@@ -4,7 +4,7 @@ use Rattle.std.specs.Prelude.{◌&&◌, if◌then◌else◌}
 use Rattle.std.proofs.lemmas.List.{map-append}
 use Rattle.lol_base.specs.BoolLaws.{and-right_false}
 use Rattle.lol_base.specs.StartTags.{StartTag}
-use Rattle.lol_laws.specs.AskedRuns.{AreToldFrom, IsToldOf, bare_tag}
+use Rattle.lol_reasons.specs.AskedRuns.{AreToldFrom, IsToldOf, bare_tag}
 use Rattle.lol_program.specs.Paths.{Selectors}
 use Rattle.lol_machine.specs.Answers.{after, asks}
 use Rattle.lol_machine.specs.Documents.{Document, element_of}

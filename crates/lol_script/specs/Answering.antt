@@ -4,7 +4,7 @@ use Rattle.std.specs.List.{concat}
 use Rattle.lol_base.specs.StartTags.{StartTag}
 use Rattle.lol_instructions.specs.Tests.{Element}
 use Rattle.lol_instructions.specs.Tries.{names_counted, attributes_counted}
-use Rattle.lol_laws.specs.AskedRuns.{bare_tag}
+use Rattle.lol_reasons.specs.AskedRuns.{bare_tag}
 use Rattle.lol_matcher.specs.Answering.{refused_with}
 use Rattle.lol_matcher.specs.Building.{started_with}
 use Rattle.lol_matcher.specs.Refusing.{allowance, refusal_of}

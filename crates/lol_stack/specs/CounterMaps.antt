@@ -1,7 +1,7 @@
 -- What the counters of all names keep.
 use Rattle.std.specs.Prelude.{ℕ, List}
 use Rattle.lol_base.specs.LocalNames.{Name}
-use Rattle.lol_name_map.specs.NameMaps.{value_of}
+use Rattle.lol_stack.specs.NameMaps.{value_of}
 use Rattle.lol_stack.specs.CounterLists.{levels_if}
 use Rattle.lol_stack.specs.declared.counters.CounterLists.{CounterLists}
 

@@ -1,3 +1,5 @@
+pub mod NameBlocks
+pub mod NameMaps
 pub mod RangesOf
 pub mod Lending
 pub mod WithRange

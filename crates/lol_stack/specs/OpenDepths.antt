@@ -1,7 +1,7 @@
 -- The depths of the open elements of each name.
 use Rattle.std.specs.Prelude.{ℕ, List, [], Option, Some, None}
 use Rattle.lol_base.specs.LocalNames.{Name}
-use Rattle.lol_name_map.specs.NameMaps.{value_of}
+use Rattle.lol_stack.specs.NameMaps.{value_of}
 use Rattle.lol_stack.specs.declared.open_names.Depths.{Depths}
 use Rattle.lol_stack.specs.declared.open_names.OpenNames.{OpenNames}
 use Rattle.lol_stack.specs.Depths.{depths_listed}

@@ -8,9 +8,9 @@ ghost use Rattle.lol_stack.specs.CounterLists.{list_levels};
 ghost use Rattle.lol_stack.specs.CounterMaps.{counters_of};
 ghost use Rattle.lol_stack.specs.TypedCounts.{counted_by_type, cut_to, key_of, count_at, PopsAbove};
 
+use crate::name_map::NameMap;
 use lol_base::LocalName;
 use lol_instructions::ChildCounter;
-use lol_name_map::NameMap;
 use std::alloc::{AllocError, Global};
 use std::marker::Model;
 

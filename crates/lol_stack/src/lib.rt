@@ -1,4 +1,4 @@
-//! The open elements of a document, with what hangs on each: its data, the counters of its children, the ranges of instructions that it makes active.
+//! The open elements of a document, with what hangs on each: its data, the counters of its children, the ranges of instructions that it makes active. What is found by name costs no more than its length, whatever names a page has.
 #![tactic(auto)]
 
 mod active_ranges;
@@ -8,6 +8,8 @@ mod directive;
 mod element_data;
 mod element_value;
 mod execution_ctx;
+mod name_blocks;
+mod name_map;
 mod open_names;
 mod stack;
 mod stack_item;
@@ -19,5 +21,7 @@ pub use counters::{CounterItem, CounterList, TypedChildCounterMap};
 pub use element_data::ElementData;
 pub use element_value::ElementValue;
 pub use execution_ctx::ExecutionCtx;
+pub use name_blocks::BlockPlace;
+pub use name_map::{NameMap, NamePlace};
 pub use stack::{AddChildError, Stack, StackNames, StackOf};
 pub use stack_item::{StackDirective, StackItem, StackItemOf};

@@ -2,13 +2,13 @@
 
 ghost use Rattle.std.specs.Prelude.{◌≡◌, ◌++◌, ◌∷◌, [], if◌then◌else◌, OnOk, OnErr, MatchBool, MatchOption};
 ghost use Rattle.lol_base.specs.LocalNames.{Name, same_local_name};
-ghost use Rattle.lol_name_map.specs.NameMaps.{StandsInMap, IsTaken};
+ghost use Rattle.lol_stack.specs.NameMaps.{StandsInMap, IsTaken};
 ghost use Rattle.lol_stack.specs.Levels.{without_last};
 ghost use Rattle.lol_stack.specs.Depths.{depths_listed};
 ghost use Rattle.lol_stack.specs.OpenDepths.{depths_of};
 
+use crate::name_map::{NameMap, NamePlace};
 use lol_base::LocalName;
-use lol_name_map::{NameMap, NamePlace};
 use std::alloc::{AllocError, Global};
 use std::slice;
 

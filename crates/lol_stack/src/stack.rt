@@ -4,7 +4,7 @@ ghost use Rattle.std.specs.Prelude.{◌≡◌, ◌*◌, ◌<◌, ◌≤◌, ◌-
 ghost use Rattle.std.specs.Option.{option_copied, option_copied_mut, option_map};
 ghost use Rattle.std.specs.Borrow.{sem};
 ghost use Rattle.lol_base.specs.LocalNames.{Name, local_name};
-ghost use Rattle.lol_name_map.specs.NameMaps.{StandsInMap};
+ghost use Rattle.lol_stack.specs.NameMaps.{StandsInMap};
 ghost use Rattle.lol_memory.specs.Limiter.{charged};
 ghost use Rattle.lol_memory.specs.LimitedVec.{with_items, grown_slots, IsLimited};
 ghost use Rattle.lol_instructions.specs.Counters.{full_count};
@@ -22,7 +22,6 @@ use crate::stack_item::{StackDirective, StackItem, StackItemOf};
 use lol_base::{LocalName, Namespace};
 use lol_instructions::{AddressRange, ChildCounter, SelectorState};
 use lol_memory::{LimitedVec, MemoryLimitExceededError, PushError, SharedMemoryLimiter};
-use lol_name_map::NamePlace;
 use std::alloc::{AllocError, Global};
 use thiserror::Error;
 
@@ -312,7 +311,7 @@ impl StackNames {
     ghost use Rattle.lol_stack.specs.TypedCounts.{cut_to};
     ghost use Rattle.lol_stack.specs.Stacks.{count_by_type};
     ghost use Rattle.lol_stack.specs.OpenDepths.{depths_of};
-    ghost use Rattle.lol_name_map.specs.NameMaps.{StandsInMap};
+    ghost use Rattle.lol_stack.specs.NameMaps.{StandsInMap};
 
     fn new(alloc: Global, enable_nth_of_type: bool) -> Self
         ensures typed { result.typed_child_counters ≡ (if enable_nth_of_type then Some [] else None) }

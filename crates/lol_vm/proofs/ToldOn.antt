@@ -5,7 +5,7 @@ use Rattle.lol_base.specs.BoolLaws.{and-right_false, and_parts}
 use Rattle.lol_base.specs.StartTags.{StartTag}
 use Rattle.lol_base.specs.declared.namespace.Namespace.{Namespace}
 use Rattle.lol_instructions.specs.Tests.{Element}
-use Rattle.lol_laws.specs.AskedRuns.{AnswersAsTold, AreTold, AreToldFrom, AskedRunsAnswerAlike, IsToldOf, ToldGoesOn, bare_tag}
+use Rattle.lol_reasons.specs.AskedRuns.{AnswersAsTold, AreTold, AreToldFrom, AskedRunsAnswerAlike, IsToldOf, ToldGoesOn, bare_tag}
 use Rattle.lol_machine.specs.Answers.{Answer, Dropped, Match, Started, after, answer, asks, document, is_dropped}
 use Rattle.lol_machine.specs.Documents.{Document, closed, element_of, empty, index_of, inner_part}
 use Rattle.lol_machine.specs.Events.{Event, Start, End}

@@ -5,7 +5,7 @@ use Rattle.lol_base.specs.declared.namespace.Namespace.{Namespace}
 use Rattle.lol_instructions.specs.Tries.{attributes_counted, names_counted}
 use Rattle.lol_program.specs.Paths.{Selectors}
 use Rattle.lol_program.specs.declared.ast.Ast.{Ast}
-use Rattle.lol_laws.specs.AskedRuns.{AreTold}
+use Rattle.lol_reasons.specs.AskedRuns.{AreTold}
 use Rattle.lol_machine.specs.Answers.{Answer, Started, answer, document}
 use Rattle.lol_machine.specs.Events.{Event, Start, End}
 use Rattle.lol_machine.specs.FreeTags.{RunsWithoutMemory}

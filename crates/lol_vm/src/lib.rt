@@ -24,7 +24,6 @@ pub use lol_memory::{
     DenseHashSet, DenseHashSetIter, Drain, LimitedVec, MatchId, MatchInfo,
     MemoryLimitExceededError, PushError, SharedMemoryLimiter,
 };
-pub use lol_name_map::{BlockPlace, NameMap, NamePlace};
 pub use lol_program::{
     AddressRange, Ast, AstNode, AttrExprOperands, AttributeComparisonExpr, AttributeExprTest,
     AttributeMatcher, ChildCounter, Compilable, CompiledAttributeExpr, CompiledLocalNameExpr,
@@ -33,8 +32,8 @@ pub use lol_program::{
     ROWS_PAY_FROM, SelectorState, Test, Tries, TryExecResult,
 };
 pub use lol_stack::{
-    AddChildError, AddressRanges, CounterItem, CounterList, ElementData, ElementValue,
-    ExecutionCtx, Stack, StackDirective, StackItem, StackItemOf, StackNames, StackOf,
-    TypedChildCounterMap,
+    AddChildError, AddressRanges, BlockPlace, CounterItem, CounterList, ElementData, ElementValue,
+    ExecutionCtx, NameMap, NamePlace, Stack, StackDirective, StackItem, StackItemOf, StackNames,
+    StackOf, TypedChildCounterMap,
 };
 pub use run::{match_each_event, match_events};

@@ -3,7 +3,7 @@ use Rattle.std.proofs.Common.{arith, ◌≡◌, ℕ, Bool, true, false, List, []
 use Rattle.lol_base.specs.declared.namespace.Namespace.{Namespace}
 use Rattle.lol_matcher.specs.Refusing.{RefusesStart}
 use Rattle.lol_matcher.specs.Told.{Matching}
-use Rattle.lol_laws.specs.AskedRuns.{bare_tag}
+use Rattle.lol_reasons.specs.AskedRuns.{bare_tag}
 use Rattle.lol_matcher.specs.declared.error.MatcherError.{MatcherError}
 use Rattle.lol_matcher.specs.declared.error.MatcherError.TheVariants.{MemoryLimitExceeded, Memory, CounterFull, Failed, NotAsked, OutsideInput}
 use Rattle.zugrenja_c.specs.Numbers.{IsOneOf, error_number}

@@ -1,6 +1,6 @@
 use Rattle.std.proofs.Common.{rules, ◌≡◌, false, true, sym, ◌∙◌}
 use Rattle.std.specs.Prelude.{if◌then◌else◌}
-use Rattle.lol_laws.specs.AskedRuns.{bare_tag}
+use Rattle.lol_reasons.specs.AskedRuns.{bare_tag}
 use Rattle.lol_matcher.specs.Noted.{handed}
 use Rattle.lol_script.specs.Answering.{told_tag}
 use Rattle.lol_script.specs.Lines.{start_tag_of}

@@ -6,7 +6,7 @@ use Rattle.lol_machine.specs.FreeTags.{AreFlat}
 use Rattle.lol_machine.specs.ReportRoom.{HoldsEachReport}
 use Rattle.lol_machine.specs.Views.{selectors, tag_of}
 use Rattle.lol_machine.specs.Vms.{HasOpen, IsPending, IsTriedAtMost, data_in, tries_in}
-use Rattle.lol_laws.specs.AskedRuns.{bare_tag}
+use Rattle.lol_reasons.specs.AskedRuns.{bare_tag}
 use Rattle.lol_matcher.specs.Answering.{KeepsOne}
 use Rattle.lol_matcher.specs.Keeping.{ForRequest, IsRefusal, IsToldAs, Runs, RunsPast, allowed, ids_of}
 use Rattle.lol_matcher.specs.LastLaws.{last_start}

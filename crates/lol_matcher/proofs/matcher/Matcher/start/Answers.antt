@@ -1,7 +1,7 @@
 use Rattle.std.proofs.Common.{◌≡◌, [], ◌∷◌, ◌++◌, length, map, ap, ◌∙◌, false, true≢false, refl, sym, subst, vec_capacity}
 use Rattle.lol_base.specs.StartTags.{StartTag}
 use Rattle.lol_machine.specs.Answers.{document}
-use Rattle.lol_laws.specs.AskedRuns.{bare_tag}
+use Rattle.lol_reasons.specs.AskedRuns.{bare_tag}
 use Rattle.lol_machine.specs.Events.{Start, has_content}
 use Rattle.lol_machine.specs.ReportRoom.{HoldsEachReport}
 use Rattle.lol_machine.specs.Views.{selectors}

@@ -1,7 +1,7 @@
 use Rattle.std.proofs.Common.{◌∙◌, sym, ap, cond, Some}
 use Rattle.lol_stack.specs.Levels.{counted_at_last}
 use Rattle.lol_stack.specs.CounterLists.{levels_if}
-use Rattle.lol_stack.proofs.NameMaps.{put-twice, read-put}
+use Rattle.lol_stack.proofs.OpenNameLemmas.{put-twice, read-put}
 use Rattle.lol_stack.proofs.counters.CounterLists.count.Goals as goal
 
 pub returns-clause-counted : goal.returns-clause-counted

@@ -1,6 +1,6 @@
 use Rattle.std.proofs.Common.{◌∙◌, sym, ap, Some, ◌++◌, ◌∷◌, []}
 use Rattle.lol_stack.specs.CounterLists.{levels_if}
-use Rattle.lol_stack.proofs.NameMaps.{put-twice, read-put, read-kept}
+use Rattle.lol_stack.proofs.OpenNameLemmas.{put-twice, read-put, read-kept}
 use Rattle.lol_stack.proofs.Refusals.{on_err_then, on_ok_then}
 use Rattle.lol_stack.proofs.counters.CounterLists.start.Goals as goal
 

@@ -1,7 +1,7 @@
 use Rattle.std.proofs.Common.{◌∙◌, sym, ap, Some, None}
 use Rattle.lol_stack.specs.Levels.{without_last}
 use Rattle.lol_stack.specs.CounterLists.{levels_if}
-use Rattle.lol_stack.proofs.NameMaps.{put-twice, read-put}
+use Rattle.lol_stack.proofs.OpenNameLemmas.{put-twice, read-put}
 use Rattle.lol_stack.proofs.counters.CounterLists.stop.Goals as goal
 
 pub returns-then-pop : goal.returns-then-pop

@@ -1,8 +1,8 @@
 use Rattle.std.proofs.Common.{◌∙◌, sym, ap, subst, Some, ◌++◌, ◌∷◌, []}
-use Rattle.lol_name_map.specs.NameMaps.{IsPutAt}
+use Rattle.lol_stack.specs.NameMaps.{IsPutAt}
 use Rattle.lol_stack.specs.declared.open_names.Depths.TheVariants.{One}
 use Rattle.lol_stack.specs.OpenDepths.{depths_if}
-use Rattle.lol_stack.proofs.NameMaps.{put-twice, read-put, read-kept}
+use Rattle.lol_stack.proofs.OpenNameLemmas.{put-twice, read-put, read-kept}
 use Rattle.lol_stack.proofs.Refusals.{on_err_then, on_ok_then}
 use Rattle.lol_stack.proofs.open_names.OpenNames.add.Goals as goal
 

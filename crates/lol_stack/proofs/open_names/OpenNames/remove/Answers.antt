@@ -1,7 +1,7 @@
 use Rattle.std.proofs.Common.{◌∙◌, sym, ap}
 use Rattle.lol_stack.specs.Levels.{without_last}
 use Rattle.lol_stack.specs.OpenDepths.{depths_if}
-use Rattle.lol_stack.proofs.NameMaps.{read-same}
+use Rattle.lol_stack.proofs.OpenNameLemmas.{read-same}
 use Rattle.lol_stack.proofs.open_names.OpenNames.remove.Goals as goal
 
 pub returns-in_default : goal.returns-in_default

@@ -1,7 +1,7 @@
 use Rattle.std.proofs.Common.{◌∙◌, sym, ap, Some, None}
 use Rattle.lol_stack.specs.Levels.{without_last}
 use Rattle.lol_stack.specs.OpenDepths.{depths_if}
-use Rattle.lol_stack.proofs.NameMaps.{put-twice, read-put}
+use Rattle.lol_stack.proofs.OpenNameLemmas.{put-twice, read-put}
 use Rattle.lol_stack.proofs.open_names.OpenNames.remove_at.Goals as goal
 
 pub returns-then-pop : goal.returns-then-pop

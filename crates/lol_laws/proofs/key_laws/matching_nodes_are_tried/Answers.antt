@@ -1,5 +1,0 @@
-use Rattle.lol_laws.proofs.TriedNodes.{matching_nodes_are_tried, tried_pairs_give_ids}
-use Rattle.lol_laws.proofs.key_laws.matching_nodes_are_tried.Goals as goal
-
-pub returns : goal.returns
-returns c = record { nodes = matching_nodes_are_tried; ids = tried_pairs_give_ids }

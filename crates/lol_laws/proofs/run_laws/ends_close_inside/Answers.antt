@@ -1,5 +1,0 @@
-use Rattle.lol_laws.proofs.Closings as proved
-use Rattle.lol_laws.proofs.run_laws.ends_close_inside.Goals as goal
-
-pub returns : goal.returns
-returns c = proved.ends_close_inside

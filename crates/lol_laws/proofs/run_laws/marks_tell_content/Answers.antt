@@ -1,5 +1,0 @@
-use Rattle.lol_laws.proofs.ContentMarks as proved
-use Rattle.lol_laws.proofs.run_laws.marks_tell_content.Goals as goal
-
-pub returns : goal.returns
-returns c = proved.marks_tell_content

@@ -1,5 +1,0 @@
-pub mod NameOrder
-pub mod NameBlockLemmas
-pub mod NameChanges
-pub mod NameMapLemmas
-pub mod Refusals

@@ -1,5 +1,0 @@
-use Rattle.std.proofs.Common.{sym}
-use Rattle.lol_name_map.proofs.name_blocks.NameBlocks.get.Goals as goal
-
-pub returns-in-Err : goal.returns-in-Err
-returns-in-Err g c = sym c.in-Err.ensures.missing

@@ -1,5 +1,0 @@
-use Rattle.std.proofs.Common.{rules}
-use Rattle.lol_name_map.proofs.name_blocks.NameBlocks.search.Goals as goal
-
-pub returns-clause-place : goal.returns-clause-place
-returns-clause-place c = search rules

@@ -1,5 +1,0 @@
-use Rattle.std.proofs.Common.{rules}
-use Rattle.lol_name_map.proofs.name_map.NameMap.insert.Goals as goal
-
-pub returns-in_ok-make_slots-in-Slot-clause-ok : goal.returns-in_ok-make_slots-in-Slot-clause-ok
-returns-in_ok-make_slots-in-Slot-clause-ok c = search rules

@@ -1,2 +1,0 @@
-pub mod NameBlocks
-pub mod NameMaps
