@@ -21,7 +21,7 @@ use Rattle.lol_machine.proofs.StackCounting.{counters_are_positions}
 use Rattle.lol_machine.proofs.Starts.{IsChosen, Running, at_once, chosen_by_name, content_ids, counted as run_count, few_addresses, gathered, gathered_all, left_addresses, names_all, names_left, needs, no_attributes, no_need, not_at_once, nothing_content, runnable, stays}
 use Rattle.lol_rows.specs.Rows.{is_left_by_name}
 use Rattle.lol_machine.specs.KeyTries.{asks_at_once, is_left_open, node_keys}
-use Rattle.lol_machine.specs.SparedRuns.{HasRoom, IsSparing, opens_at_once, ranges_by_name}
+use Rattle.lol_machine.specs.SparedRuns.{HasRowRoom, IsSparing, opens_at_once, ranges_by_name}
 use Rattle.lol_machine.specs.declared.spared_runs.RowSpace.{RowSpace}
 use Rattle.lol_machine.specs.TriedLaws.{at_once_asks}
 use Rattle.lol_machine.proofs.Stops.{asked_at_once, left_by_names, started_by_names, stops_are_requests}
@@ -58,7 +58,7 @@ pub record Trial {E R : Type 0} (ids : E → Ids) (with_ids : E → Ids → E) (
   pub before : Tries
   pub no_names : names_counted before ≡ 0
   pub no_attributes : attributes_counted before ≡ 0
-  pub room_kept : HasRoom vm.program vm.space → HasRoom vm.program new.space
+  pub room_kept : HasRowRoom vm.program vm.space → HasRowRoom vm.program new.space
   pub tried : (tag : StartTag) → IsTagOf ctx.stack_item.local_name ctx.ns tag → IsTried ids with_ids (record vm { stack = stack; tries = before }) new ctx next result tag
 
 pub named_so : {E : Type 0} {ids : E → Ids} {name : Name} {own ns : Namespace} {item : StackItemOf Name E} → IsNewItem ids name item → own ≡ ns → (tag : StartTag) → IsTagOf name ns tag → IsTagOf item.local_name own tag
@@ -67,7 +67,7 @@ named_so item namespace tag named = (item.name ∙ named.0, named.1 ∙ sym name
 abbrev pub trial_of : {E R : Type 0} {ids : E → Ids} {with_ids : E → Ids → E} {vm new : Vm E} {name : Name} {ns : Namespace} {next : ExecutionCtx E} {result : Result (Option RecoveryPoint) R} → ((w : E) (more : Ids) → ids (with_ids w more) ≡ more)
     → (ctx : ExecutionCtx E) → IsNewItem ids name ctx.stack_item → ctx.ns ≡ ns → ctx.with_content ≡ true → last_count vm.stack < full_count
     → (stack : StackOf Name StackNames E) → stack ≡ counted_in vm.stack name → (before : Tries) → names_counted before ≡ 0 → attributes_counted before ≡ 0
-    → (HasRoom vm.program vm.space → HasRoom vm.program new.space) → ((tag : StartTag) → IsTagOf ctx.stack_item.local_name ctx.ns tag → IsTried ids with_ids (record vm { stack = stack; tries = before }) new ctx next result tag) → Trial ids with_ids vm new name ns next result
+    → (HasRowRoom vm.program vm.space → HasRowRoom vm.program new.space) → ((tag : StartTag) → IsTagOf ctx.stack_item.local_name ctx.ns tag → IsTried ids with_ids (record vm { stack = stack; tries = before }) new ctx next result tag) → Trial ids with_ids vm new name ns next result
 trial_of lends ctx item namespace content room stack is before names attributes kept tried = record {
   lends = lends;
   ctx = ctx;

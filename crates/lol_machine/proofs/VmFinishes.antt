@@ -20,7 +20,7 @@ use Rattle.lol_machine.proofs.InstructionAddresses.{attributes_gather, same_coun
 use Rattle.lol_machine.proofs.Kept.{after_unfinished, on_for}
 use Rattle.lol_machine.proofs.Starts.{IsChosen, Running, few_addresses, StaysThe, chosen_by_keys, chosen_by_name, within_bounds, attributes_stay, run_content, content_ids}
 use Rattle.lol_machine.specs.KeyTries.{asks_at_once, node_keys}
-use Rattle.lol_machine.specs.SparedRuns.{HasRoom, HasRoomFor, IsSparing, all_passing, left_at_point, singles, ranges_after, ranges_before, ranges_by_name}
+use Rattle.lol_machine.specs.SparedRuns.{HasRowRoom, HasRoomFor, IsSparing, all_passing, left_at_point, singles, ranges_after, ranges_before, ranges_by_name}
 use Rattle.lol_machine.specs.Vms.{is_at_once}
 use Rattle.lol_machine.specs.declared.spared_runs.RowSpace.{RowSpace}
 use Rattle.lol_machine.proofs.Stops.{left_counted, requests_finish, runs_gather}
@@ -259,7 +259,7 @@ module _ {E : Type 0} (ids : E → Ids) (vm : Vm E) (s : Selectors) (esi : Bool)
             attributes = omega (arith, executed.attributes, pending.attributes, opens_left);
           }
 
-      pub answered_now : {F : Type 0} (step : F → MatchInfo → Unit {0} → F → Type 0) (f g : F) (space : RowSpace) → (HasRoom vm.program vm.space → HasRoom vm.program space) → (next : Vm E)
+      pub answered_now : {F : Type 0} (step : F → MatchInfo → Unit {0} → F → Type 0) (f g : F) (space : RowSpace) → (HasRowRoom vm.program vm.space → HasRowRoom vm.program space) → (next : Vm E)
           → IsCalledAtEach step f (reports new_ctx.with_content (ascending (ids new_ctx.stack_item.element_data))) g
           → IsEntered new_ctx.with_content new_ctx.stack_item (record vm { tries = after; space = space }) next
           → IsAnswered ids step s esi events tag true vm next f g

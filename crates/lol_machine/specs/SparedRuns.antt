@@ -72,12 +72,12 @@ abbrev pub HasRoomFor : RowSpace → ℕ → Type 0
 HasRoomFor space count = count ≤ vec_capacity space.left
 
 -- of a program with rows there is room for all instructions
-abbrev pub HasRoom : Program → RowSpace → Type 0
-HasRoom p space = has_rows p ≡ true → HasRoomFor space (length p.instructions.items)
+abbrev pub HasRowRoom : Program → RowSpace → Type 0
+HasRowRoom p space = has_rows p ≡ true → HasRoomFor space (length p.instructions.items)
 
 -- A program and its room are of selectors: it has rows where their nodes are spared, those of its instructions, and room for what they leave.
 pub record IsSparing (s : Selectors) (p : Program) (space : RowSpace) : Type 0 where
   pub mode : has_rows p ≡ s.by_keys
   pub rows : HasItsRows p
-  pub room : HasRoom p space
+  pub room : HasRowRoom p space
   pub size : length p.instructions.items < 2 ^ 63

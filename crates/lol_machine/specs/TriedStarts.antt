@@ -3,7 +3,7 @@ use Rattle.std.specs.Prelude.{ℕ, ◌≡◌, ◌<◌, ◌^◌, ◌⊎◌, Bool,
 use Rattle.std.specs.declared.ops.Range.{Range}
 use Rattle.lol_program.specs.Programs.{all_addresses}
 use Rattle.lol_program.specs.ProgramViews.{HasItsRows, has_rows}
-use Rattle.lol_machine.specs.SparedRuns.{HasRoom, HasRoomFor, opens_at_once, ranges_after, ranges_by_name}
+use Rattle.lol_machine.specs.SparedRuns.{HasRowRoom, HasRoomFor, opens_at_once, ranges_after, ranges_by_name}
 use Rattle.std.specs.declared.alloc.AllocError.{AllocError}
 use Rattle.lol_base.specs.LocalNames.{Name}
 use Rattle.lol_base.specs.StartTags.{StartTag}
@@ -105,6 +105,6 @@ pub record IsBegun {E : Type 0} (ids : E → Ids) (with_ids : E → Ids → E) (
   pub names : names_counted before ≡ 0
   pub attributes : attributes_counted before ≡ 0
   pub kept : new ≡ record old { stack = stack; tries = new.tries; space = new.space }
-  pub spared : HasRoom old.program old.space → HasRoom old.program new.space
+  pub spared : HasRowRoom old.program old.space → HasRowRoom old.program new.space
   pub tried : (tag : StartTag) → IsTagOf ctx.stack_item.local_name ctx.ns tag
       → IsTried {R = AllocError} ids with_ids (record old { stack = stack; tries = before }) new ctx next (Ok stopped) tag

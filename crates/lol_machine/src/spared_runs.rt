@@ -8,7 +8,7 @@ ghost use Rattle.lol_program.specs.Programs.{all_addresses};
 ghost use Rattle.lol_rows.specs.KeyHashes.{name_hashes as hashes_of};
 ghost use Rattle.lol_rows.specs.Rows.{AreItsHashes, AreRowsOf, is_left_by_keys, is_left_by_name, is_left_open, leaves, some_pass};
 ghost use Rattle.lol_rows.specs.TagHashes.{AreAmong, tag_hashes};
-ghost use Rattle.lol_machine.specs.SparedRuns.{HasRoom, HasRoomFor, all_passing, left_at_point, opens_at_once};
+ghost use Rattle.lol_machine.specs.SparedRuns.{HasRowRoom, HasRoomFor, all_passing, left_at_point, opens_at_once};
 ghost use Rattle.lol_machine.specs.TagRuns.{all_ranges, ranges_to_run_in};
 
 use crate::tag_runs::{AllRanges, RecoveryPoint, TagRanges};
@@ -32,7 +32,7 @@ pub struct RowSpace {
 impl RowSpace {
     /// Room for a program. Where that has no rows it takes no memory.
     pub fn new(alloc: Global, program: &Program) -> Result<Self, AllocError>
-        ensures room { IfOk result (λ space. HasRoom program.now space) }
+        ensures room { IfOk result (λ space. HasRowRoom program.now space) }
         ensures size { length program.now.instructions.items < 2 ^ 63 }
     {
         let count = match &program.rows {

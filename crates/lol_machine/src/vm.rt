@@ -20,7 +20,7 @@ ghost use Rattle.lol_machine.specs.Premises.{ForAskedOf, ForEndOf, ForHandedOf, 
 ghost use Rattle.lol_program.specs.ProgramViews.{has_rows};
 ghost use Rattle.lol_machine.specs.ReportRoom.{ids_listed};
 ghost use Rattle.lol_machine.specs.TriedStarts.{IsBegun, IsCompleted, IsNewContext, IsTried, IsTriedByName, left_at};
-ghost use Rattle.lol_machine.specs.SparedRuns.{HasRoom, stopped_by};
+ghost use Rattle.lol_machine.specs.SparedRuns.{HasRowRoom, stopped_by};
 ghost use Rattle.lol_machine.specs.VmLending.{lends_current_of_vm};
 ghost use Rattle.lol_stack.specs.Stacks.{items_in, slots_in, item_bytes_in, list_in, last_count, IsPushed, IsSame};
 ghost use Rattle.lol_machine.specs.Views.{selectors};
@@ -337,7 +337,7 @@ impl<E: ElementData> VmOf<Program, LocalName<'static>, StackNames, E> {
         ensures ok { OnOk result (self.new ≡ record self.old { tries = self.new.tries; space = self.new.space }) }
         ensures err { OnErr result
             (self.new ≡ with_failure (record self.old { tries = self.new.tries; space = self.new.space })) }
-        ensures room { HasRoom self.old.program self.old.space → HasRoom self.old.program self.new.space }
+        ensures room { HasRowRoom self.old.program self.old.space → HasRowRoom self.old.program self.new.space }
     {
         let directive = Stack::get_stack_directive(&ctx.stack_item, ctx.ns, self.enable_esi_tags);
         if directive == StackDirective::PushIfNotSelfClosing {
@@ -374,7 +374,7 @@ impl<E: ElementData> VmOf<Program, LocalName<'static>, StackNames, E> {
         ensures ok { OnOk result (self.new ≡ record self.old { tries = self.new.tries; space = self.new.space }) }
         ensures err { OnErr result
             (self.new ≡ with_failure (record self.old { tries = self.new.tries; space = self.new.space })) }
-        ensures room { HasRoom self.old.program self.old.space → HasRoom self.old.program self.new.space }
+        ensures room { HasRowRoom self.old.program self.old.space → HasRowRoom self.old.program self.new.space }
     {
         let name = &ctx.stack_item.local_name;
         match find_by_name(&self.program, &self.stack, name, &mut self.space) {
@@ -548,7 +548,7 @@ impl<E: ElementData> VmOf<Program, LocalName<'static>, StackNames, E> {
         ensures name { ctx.new.stack_item.local_name ≡ ctx.old.stack_item.local_name }
         ensures content { ctx.new.with_content ≡ ctx.old.with_content }
         ensures kept { self.new ≡ record self.old { tries = self.new.tries; space = self.new.space } }
-        ensures room { HasRoom self.old.program self.old.space → HasRoom self.old.program self.new.space }
+        ensures room { HasRowRoom self.old.program self.old.space → HasRowRoom self.old.program self.new.space }
     {
         if self.program.rows.is_some() {
             return self.complete_left(point, matcher, ctx);
@@ -573,7 +573,7 @@ impl<E: ElementData> VmOf<Program, LocalName<'static>, StackNames, E> {
         ensures name { ctx.new.stack_item.local_name ≡ ctx.old.stack_item.local_name }
         ensures content { ctx.new.with_content ≡ ctx.old.with_content }
         ensures kept { self.new ≡ record self.old { tries = self.new.tries; space = self.new.space } }
-        ensures room { HasRoom self.old.program self.old.space → HasRoom self.old.program self.new.space }
+        ensures room { HasRowRoom self.old.program self.old.space → HasRowRoom self.old.program self.new.space }
     {
         let name = &ctx.stack_item.local_name;
         let space = &mut self.space;

@@ -14,7 +14,7 @@ use Rattle.lol_machine.specs.Refusals.{Allowance}
 use Rattle.lol_machine.specs.ReportRoom.{HoldsEachReport}
 use Rattle.lol_machine.specs.Views.{match_of}
 use Rattle.lol_machine.specs.Vms.{Vm, info_of, is_asked_for, tries_in}
-use Rattle.lol_matcher.specs.Answering.{IsReported, reported_after, with_told}
+use Rattle.lol_matcher.specs.Answering.{IsReportedUnder, reported_after, with_told}
 use Rattle.lol_matcher.specs.Keeping.{IsToldAs}
 use Rattle.lol_matcher.specs.LastLaws.{WasAnswered, answered}
 use Rattle.lol_matcher.specs.Noted.{handed_told, with_elements}
@@ -30,7 +30,7 @@ fits_in s esi events tag matched asked m n is room holds =
     let d = document s esi events in
     subst (λ k. k ≤ room) (sym (length-map matched info_of ∙ ap length (answered s esi d tag matched asked m n is).report)) (holds esi (element_of d tag) d.open_elements)
 
-pub answered_report : (s : Selectors) (esi : Bool) (events : List Event) (tag : StartTag) (items : List MatchInfo) (tries : Tries) (asked : Bool) → IsReported s esi events tag asked items tries
+pub answered_report : (s : Selectors) (esi : Bool) (events : List Event) (tag : StartTag) (items : List MatchInfo) (tries : Tries) (asked : Bool) → IsReportedUnder s esi events tag asked items tries
     → map match_of items ≡ reported_after s esi events tag
 answered_report s esi events tag items tries asked is = (answered s esi (document s esi events) tag (map match_of items) asked (names_counted tries) (attributes_counted tries) is).report
 

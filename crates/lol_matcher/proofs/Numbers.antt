@@ -17,7 +17,7 @@ use Rattle.lol_machine.specs.Events.{Event, Start, End, has_content}
 use Rattle.lol_machine.specs.Views.{match_of}
 use Rattle.lol_machine.specs.Vms.{Vm, is_asked_for, open_after}
 use Rattle.lol_machine.specs.declared.error.AuxStartTagInfoRequest.{AuxStartTagInfoRequest}
-use Rattle.lol_matcher.specs.Answering.{IsReported, KeepsOne}
+use Rattle.lol_matcher.specs.Answering.{IsReportedUnder, KeepsOne}
 use Rattle.lol_matcher.specs.Keeping.{Waits, count_with}
 use Rattle.lol_matcher.specs.LastLaws.{answered, opens_if, opens_none}
 use Rattle.lol_matcher.specs.Told.{in_word, numbers_open, with_dropped}
@@ -57,7 +57,7 @@ module _ (s : Selectors) (esi : Bool) where
         open_after_start false (opens_none (has_content esi tag) (is_dropped s (element_of d tag) d.open_elements) drops)
 
     -- one that is answered is numbered, if it is opened
-    pub numbered_after : {T : Type 0} (matched : List MatchInfo) (asked : Bool) (tries : Tries) → IsReported s esi before tag asked matched tries
+    pub numbered_after : {T : Type 0} (matched : List MatchInfo) (asked : Bool) (tries : Tries) → IsReportedUnder s esi before tag asked matched tries
         → (old new : List (OpenElement T)) → KeepsOne (has_content esi tag) (in_word (length before)) matched old new
         → map (λ (e : OpenElement T). e.number) old ≡ numbers_open d.open_elements → map (λ (e : OpenElement T). e.number) new ≡ numbers_open (document s esi (before ++ Start tag ∷ [])).open_elements
     numbered_after {T} matched asked tries is old new keeps were =

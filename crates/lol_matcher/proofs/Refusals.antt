@@ -25,13 +25,13 @@ use Rattle.lol_machine.specs.declared.error.AuxStartTagInfoRequest.{AuxStartTagI
 use Rattle.lol_machine.specs.ChargeLaws.{stays_within_alone, passes_maximum_alone}
 
 -- what a start tag is refused for refuses all that come later
-pub is_refusal : (error : MatcherError) (free : Type 0) (refusal : Option Cause) → IsRefusedFor error free refusal → IsRefusal error
-is_refusal MemoryLimitExceeded free refusal h = tt
-is_refusal Memory free refusal h = tt
-is_refusal CounterFull free refusal h = tt
-is_refusal Failed free refusal h = h
-is_refusal NotAsked free refusal h = h
-is_refusal OutsideInput free refusal h = h
+pub is_refusal : (error : MatcherError) (no_memory : Type 0) (refusal : Option Cause) → IsRefusedFor error no_memory refusal → IsRefusal error
+is_refusal MemoryLimitExceeded no_memory refusal h = tt
+is_refusal Memory no_memory refusal h = tt
+is_refusal CounterFull no_memory refusal h = tt
+is_refusal Failed no_memory refusal h = h
+is_refusal NotAsked no_memory refusal h = h
+is_refusal OutsideInput no_memory refusal h = h
 
 -- so no other error was answered
 pub still_refusal : {A : Type 0} {result other : Result A MatcherError} → IfErr result IsRefusal → result ≡ other → IfErr other IsRefusal
@@ -136,5 +136,5 @@ module _ {T : Type 0} (s : Selectors) (esi : Bool) {d : Document} {most : ℕ} {
       not_over none over = cc
 
   -- memory may be refused where neither is due
-  pub refused_for_memory : (tag : StartTag) {free : Type 0} → (element_of d tag).position ≤ greatest_count → (free → opens_in s esi d tag ≡ true → IsLimited v now → ⊥) → IsRefusedFor Memory free (refusal s esi a d most (Start tag))
+  pub refused_for_memory : (tag : StartTag) {no_memory : Type 0} → (element_of d tag).position ≤ greatest_count → (no_memory → opens_in s esi d tag ≡ true → IsLimited v now → ⊥) → IsRefusedFor Memory no_memory (refusal s esi a d most (Start tag))
   refused_for_memory tag position unlimited = (counter_has_room tag position, λ is. limit_isnt_due tag position (unlimited is))

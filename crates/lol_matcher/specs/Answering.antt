@@ -20,8 +20,8 @@ use Rattle.lol_matcher.specs.declared.matcher.Started.TheVariants.{Reported, Nee
 use Rattle.lol_matcher.specs.declared.open_element.OpenElement.{OpenElement}
 
 -- A start tag after events is reported under exactly these, in order, its attributes are asked for or not, and so many nodes are tried.
-abbrev pub IsReported : Selectors → Bool → List Event → StartTag → Bool → List MatchInfo → Tries → Type 0
-IsReported s esi events tag asked matched tries =
+abbrev pub IsReportedUnder : Selectors → Bool → List Event → StartTag → Bool → List MatchInfo → Tries → Type 0
+IsReportedUnder s esi events tag asked matched tries =
     answer s esi (document s esi events) (Start tag) ≡ Started (map match_of matched) asked (names_counted tries) (attributes_counted tries)
 
 -- what a start tag after events is reported under, in order
@@ -38,10 +38,10 @@ told_after Reported t name ns = started_told t name ns
 told_after NeedsAttributes t name ns = asked_told t name ns
 
 -- A start tag of this name and namespace, whatever its attributes are, is reported so, or its attributes are asked for.
-abbrev pub Answers : started.Started → Told → List ℕ → Namespace → List MatchInfo → Tries → Type 0
-Answers Reported t name ns matched tries =
-    (tag : StartTag) → tag.name ≡ name → tag.namespace ≡ ns → IsReported (selectors t.ast) t.esi (heard t) tag false matched tries
-Answers NeedsAttributes t name ns matched tries =
+abbrev pub AnswersStart : started.Started → Told → List ℕ → Namespace → List MatchInfo → Tries → Type 0
+AnswersStart Reported t name ns matched tries =
+    (tag : StartTag) → tag.name ≡ name → tag.namespace ≡ ns → IsReportedUnder (selectors t.ast) t.esi (heard t) tag false matched tries
+AnswersStart NeedsAttributes t name ns matched tries =
     (matched ≡ []) × ((tag : StartTag) → tag.name ≡ name → tag.namespace ≡ ns → is_asked_for (selectors t.ast) t.esi (heard t) tag ≡ true)
 
 -- a list whose last is changed, if there is one
@@ -89,11 +89,11 @@ IfWaits told aux holds = IfSome told.asked (λ asked. holds (handed asked.0 aske
 
 -- The start tag that waited was answered as the definition says.
 abbrev pub IsFinishedAs : {T : Type 0} → Told → StartTag → Matching T → Type 0
-IsFinishedAs t tag new = IsReported (selectors t.ast) t.esi t.events tag true new.matched new.tries
+IsFinishedAs t tag new = IsReportedUnder (selectors t.ast) t.esi t.events tag true new.matched new.tries
 
 -- A start tag with its attributes was answered as the definition says, after what was told.
 abbrev pub IsAnsweredAfter : {T : Type 0} → Told → StartTag → Matching T → Type 0
-IsAnsweredAfter t tag new = IsReported (selectors t.ast) t.esi (heard t) tag (is_asked_for (selectors t.ast) t.esi (heard t) tag) new.matched new.tries
+IsAnsweredAfter t tag new = IsReportedUnder (selectors t.ast) t.esi (heard t) tag (is_asked_for (selectors t.ast) t.esi (heard t) tag) new.matched new.tries
 
 -- A matcher that was told a tag: nothing else changed but for what is reported and what is open.
 abbrev pub with_told : {T : Type 0} → Told → Matching T → Matching T → Matching T

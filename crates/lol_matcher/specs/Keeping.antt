@@ -17,7 +17,7 @@ use Rattle.lol_machine.specs.ReportRoom.{HoldsEachReport}
 use Rattle.lol_machine.specs.Views.{selectors}
 use Rattle.lol_machine.specs.Vms.{Vm, Stands, HasOpen, IsPending, IsRestOf, data_in, is_asked_for, slots_charged, slot_bytes, tries_in}
 use Rattle.lol_machine.specs.declared.error.AuxStartTagInfoRequest.{AuxStartTagInfoRequest}
-use Rattle.lol_matcher.specs.Answering.{IsReported, KeepsOne, with_last_number}
+use Rattle.lol_matcher.specs.Answering.{IsReportedUnder, KeepsOne, with_last_number}
 use Rattle.lol_matcher.specs.Last.{IsLast}
 use Rattle.lol_matcher.specs.Refusing.{allowance, refusal_after}
 use Rattle.lol_matcher.specs.Told.{History, elements_of, heard, in_word, numbers_open}
@@ -50,7 +50,7 @@ allowed vm limiter = allowance (slot_bytes vm) limiter.maximum
 -- A start tag was answered: it is reported under these, wasn't to be refused, and the machine runs on. Its element is opened under a number
 -- exactly if it has content.
 pub record IsToldAs {T : Type 0} (s : Selectors) (esi : Bool) (events : List Event) (tag : StartTag) (asked : Bool) (number : ℕ) (opened : Bool) (matched : List MatchInfo) (a : Allowance) (old new : Vm (OpenElement T)) (limiter : Limiter) : Type 0 where
-  pub reported : IsReported s esi events tag asked matched (tries_in new)
+  pub reported : IsReportedUnder s esi events tag asked matched (tries_in new)
   pub fits : refusal_after s esi a events tag ≡ None
   pub runs : Runs s esi (events ++ Start tag ∷ []) new limiter
   pub has_opened : opened ≡ has_content esi tag

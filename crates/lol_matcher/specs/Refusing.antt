@@ -25,12 +25,12 @@ refusal_after s esi a events tag = refusal s esi a (document s esi events) (long
 -- A start tag is refused for its cause; for memory only where its parent's counter isn't full, nor, where the tag is run without memory,
 -- is the limit due.
 abbrev pub IsRefusedFor : MatcherError → Type 0 → Option Cause → Type 0
-IsRefusedFor MemoryLimitExceeded free refusal = refusal ≡ Some Limit
-IsRefusedFor CounterFull free refusal = refusal ≡ Some Counter
-IsRefusedFor Memory free refusal = (refusal ≡ Some Counter → ⊥) × (free → refusal ≡ Some Limit → ⊥)
-IsRefusedFor Failed free refusal = ⊥
-IsRefusedFor NotAsked free refusal = ⊥
-IsRefusedFor OutsideInput free refusal = ⊥
+IsRefusedFor MemoryLimitExceeded no_memory refusal = refusal ≡ Some Limit
+IsRefusedFor CounterFull no_memory refusal = refusal ≡ Some Counter
+IsRefusedFor Memory no_memory refusal = (refusal ≡ Some Counter → ⊥) × (no_memory → refusal ≡ Some Limit → ⊥)
+IsRefusedFor Failed no_memory refusal = ⊥
+IsRefusedFor NotAsked no_memory refusal = ⊥
+IsRefusedFor OutsideInput no_memory refusal = ⊥
 
 -- whether a start tag is refused that comes now, or the one that waits, once its attributes come
 abbrev pub refusal_of : {T : Type 0} → Matching T → List Event → StartTag → Option Cause

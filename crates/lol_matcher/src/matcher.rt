@@ -105,7 +105,7 @@ impl<T: Drop> Matcher<T> {
     ghost use Rattle.lol_base.specs.StartTags.{RangesAreInside, StartTag};
     ghost use Rattle.lol_instructions.specs.Tries.{names_counted, attributes_counted};
     ghost use Rattle.lol_stack.specs.Calls.{IsCalledAtEach};
-    ghost use Rattle.lol_matcher.specs.Answering.{Answers, IfWaits, IsAnsweredAfter, IsFinishedAs, OpensFor, OpensStart, last_value, reported_in, told_after, refused_with, with_ended, with_told, with_value};
+    ghost use Rattle.lol_matcher.specs.Answering.{AnswersStart, IfWaits, IsAnsweredAfter, IsFinishedAs, OpensFor, OpensStart, last_value, reported_in, told_after, refused_with, with_ended, with_told, with_value};
     ghost use Rattle.lol_matcher.specs.Building.{Building, started_with};
     ghost use Rattle.lol_matcher.specs.Explaining.{AreNumbered, ForTexts, ids_with_reasons, reasons_told};
     ghost use Rattle.lol_matcher.specs.Keeping.{IsRefusal};
@@ -269,7 +269,7 @@ impl<T: Drop> Matcher<T> {
     /// `Failed` exactly after a refusal, and then nothing changes; else why the tag is refused, and all that come later.
     pub fn start(&mut self, name: &[u8], ns: Namespace) -> Result<Started, MatcherError>
         ensures answers { IfOk result (λ started.
-            Answers started self.old.told name.now ns self.new.matched self.new.tries) }
+            AnswersStart started self.old.told name.now ns self.new.matched self.new.tries) }
         ensures opens { IfOk result (λ started. OpensStart started name.now ns self.old self.new) }
         ensures ok { IfOk result (λ started.
             self.new ≡ with_told (told_after started self.old.told name.now ns) self.old self.new) }

@@ -11,7 +11,7 @@ use Rattle.lol_machine.specs.Answers.{Answer, after, answer, answers_from, docum
 use Rattle.lol_machine.specs.Documents.{Document, empty}
 use Rattle.lol_machine.specs.Events.{Event}
 use Rattle.lol_machine.specs.Refusals.{Cause, refused}
-use Rattle.lol_script.specs.Answering.{Answers, HasSelectors, Hears, IsWritten, output_for, told_event}
+use Rattle.lol_script.specs.Answering.{AnswersScript, HasSelectors, Hears, IsWritten, output_for, told_event}
 use Rattle.lol_script.specs.Output.{lines_of, shown_answer}
 use Rattle.lol_script.specs.Scripts.{Output, Script, output_of, reason_lines, run_output, selectors_in, shown_cause, text_for, texts_for, texts_in, with_event}
 use Rattle.lol_script.specs.declared.program.Status.{Status}
@@ -85,11 +85,11 @@ module _ (p : Selectors) (s : Script) (events : List Event) where
 -- 2. Runs
 
 -- a tag that is answered is one more of a script
-pub answered_more : (code later : ScriptRun) (s : Script) (run : Answers code s) → code.matcher.failed ≡ false → later.matcher.failed ≡ false → later.shows_tries ≡ code.shows_tries → (event : Event)
+pub answered_more : (code later : ScriptRun) (s : Script) (run : AnswersScript code s) → code.matcher.failed ≡ false → later.matcher.failed ≡ false → later.shows_tries ≡ code.shows_tries → (event : Event)
     → (Hears run.selectors s (map told_event s.events) code.matcher → HasSelectors run.selectors s code.matcher.told.ast code.explained
     → Hears run.selectors s (map told_event s.events ++ told_event event ∷ []) later.matcher × HasSelectors run.selectors s later.matcher.told.ast later.explained
     × (later.text.items ≡ code.text.items ++ text_for run.selectors s (document run.selectors s.esi (map told_event s.events)) (told_event event)))
-    → Answers later (with_event s event)
+    → AnswersScript later (with_event s event)
 answered_more code later s run going still shows event goes =
     let before = subst (IsWritten run.selectors s code) going run.written in
     let on = goes before.0 before.1 in
@@ -117,10 +117,10 @@ answered_more code later s run going still shows event goes =
         stay (Some explained) h = (h.0, h.1, h.2, record { holds = h.3.holds; lines = h.3.lines; room = h.3.room })
 
 -- a tag that is refused ends what is written
-pub refused_ends : (code later : ScriptRun) (s : Script) (run : Answers code s) → code.matcher.failed ≡ false → later.matcher.failed ≡ true → later.shows_tries ≡ code.shows_tries → (event : Event) (cause : Cause)
+pub refused_ends : (code later : ScriptRun) (s : Script) (run : AnswersScript code s) → code.matcher.failed ≡ false → later.matcher.failed ≡ true → later.shows_tries ≡ code.shows_tries → (event : Event) (cause : Cause)
     → (Hears run.selectors s (map told_event s.events) code.matcher → HasSelectors run.selectors s code.matcher.told.ast code.explained → (rest : List Event)
     → refused run.selectors s.esi (allowance 64 s.limit) (map told_event s.events ++ told_event event ∷ rest) ≡ Some (length (map told_event s.events), cause))
-    → later.text.items ≡ code.text.items ++ lines_of (shown_cause cause ∷ []) → Answers later (with_event s event)
+    → later.text.items ≡ code.text.items ++ lines_of (shown_cause cause ∷ []) → AnswersScript later (with_event s event)
 refused_ends code later s run going ended shows event cause first text =
     let before = subst (IsWritten run.selectors s code) going run.written in
     let line = lines_of (shown_cause cause ∷ []) in
@@ -136,7 +136,7 @@ refused_ends code later s run going ended shows event cause first text =
     }
 
 -- after a refusal a tag changes nothing
-pub refused_stays : (code : ScriptRun) (s : Script) → Answers code s → code.matcher.failed ≡ true → (event : Event) → Answers code (with_event s event)
+pub refused_stays : (code : ScriptRun) (s : Script) → AnswersScript code s → code.matcher.failed ≡ true → (event : Event) → AnswersScript code (with_event s event)
 refused_stays code s run is event =
     let before = subst (IsWritten run.selectors s code) is run.written in
     record {
@@ -156,7 +156,7 @@ abbrev pub status_of : Bool → Status
 status_of true = Refused
 status_of false = Good
 
-pub written_whole : (code : ScriptRun) (s : Script) → Answers code s → output_of (Ok s) ≡ record { text = code.text.items; status = status_of code.matcher.failed }
+pub written_whole : (code : ScriptRun) (s : Script) → AnswersScript code s → output_of (Ok s) ≡ record { text = code.text.items; status = status_of code.matcher.failed }
 written_whole code s run = sym (run.same s.events) ∙ by_end code.matcher.failed run.written
   where
     by_end : (ended : Bool) → IsWritten run.selectors s code ended → output_for run.selectors s (map told_event s.events) ≡ record { text = code.text.items; status = status_of ended }

@@ -62,7 +62,7 @@ module _ (old new : M) (going : old.failed ≡ false) where
     abbrev bare : StartTag
     bare = bare_tag name ns
 
-    pub bare_started : answering.Answers started.Reported old.told name ns new.matched new.tries → OpensStart started.Reported name ns old new → new ≡ with_told (told_after started.Reported old.told name ns) old new → Fits started.Reported old name ns
+    pub bare_started : answering.AnswersStart started.Reported old.told name ns new.matched new.tries → OpensStart started.Reported name ns old new → new ≡ with_told (told_after started.Reported old.told name ns) old new → Fits started.Reported old name ns
         → IsStarted (Reported false) script old new
     bare_started answers opens is fits = subst (λ (t : StartTag). IsStarted (Reported false) t old new) same (record {
       goes_on = goes_on (told_after started.Reported old.told name ns) bare old new going is refl refl refl;
@@ -71,7 +71,7 @@ module _ (old new : M) (going : old.failed ≡ false) where
       opened = (opens bare refl refl).opened;
     })
 
-    pub bare_dropped : answering.Answers started.NeedsAttributes old.told name ns new.matched new.tries → OpensStart started.NeedsAttributes name ns old new → new ≡ with_told (told_after started.NeedsAttributes old.told name ns) old new
+    pub bare_dropped : answering.AnswersStart started.NeedsAttributes old.told name ns new.matched new.tries → OpensStart started.NeedsAttributes name ns old new → new ≡ with_told (told_after started.NeedsAttributes old.told name ns) old new
         → Fits started.NeedsAttributes old name ns → IsStarted Dropped script old new
     bare_dropped answers opens is fits =
         let s = selectors old.told.ast in

@@ -20,7 +20,7 @@ use Rattle.lol_machine.specs.Documents.{Document, empty}
 use Rattle.lol_machine.specs.Events.{Event}
 use Rattle.lol_machine.specs.Laws.{SameSelectors}
 use Rattle.lol_machine.specs.Views.{selectors}
-use Rattle.lol_script.specs.Answering.{Answers, HasSelectors, Hears, IsNewMatcher, IsWritten, output_for, told_event}
+use Rattle.lol_script.specs.Answering.{AnswersScript, HasSelectors, Hears, IsNewMatcher, IsWritten, output_for, told_event}
 use Rattle.lol_script.specs.Explaining.{Explains}
 use Rattle.lol_script.specs.Output.{lines_of, shown_answer}
 use Rattle.lol_script.specs.Readings.{IsReading}
@@ -129,7 +129,7 @@ module _ (told : AskedRunsAnswerAlike) (items : ItemsAnswerAsTexts) (reasons : T
   nothing_written p = none ∙ ap (λ (events : List Event). concat (texts_for p s empty (map told_event events))) (sym reading.none)
 
   begins : (p : Selectors) (ast : Ast) → IsNewMatcher ast settings.limit settings.esi code.matcher → HasSelectors p s code.matcher.told.ast code.explained
-      → ((events : List Event) → output_for p s (map told_event events) ≡ output_for (selectors_in s) s events) → Answers code s
+      → ((events : List Event) → output_for p s (map told_event events) ≡ output_for (selectors_in s) s events) → AnswersScript code s
   begins p ast new has alike = record {
     selectors = p;
     same = alike;
@@ -140,10 +140,10 @@ module _ (told : AskedRunsAnswerAlike) (items : ItemsAnswerAsTexts) (reasons : T
   pub begun : (settings.explains ≡ false → (code.explained ≡ None) × IsNewMatcher tree settings.limit settings.esi code.matcher)
       → (settings.explains ≡ true → IfSome code.explained (λ explained. (t : Script) → KeepsLines settings.selects t.selects → is_with_rows tree ≡ (selectors_in t).by_keys
       → Explains explained t code.matcher.told.ast × (is_with_rows code.matcher.told.ast ≡ (selectors_in t).by_keys) × IsNewMatcher code.matcher.told.ast settings.limit settings.esi code.matcher))
-      → (settings.explains ≡ true → IsSome code.explained) → Answers code s
+      → (settings.explains ≡ true → IsSome code.explained) → AnswersScript code s
   begun plain explained some = by_explains settings.explains refl
     where
-      by_explains : (b : Bool) → settings.explains ≡ b → Answers code s
+      by_explains : (b : Bool) → settings.explains ≡ b → AnswersScript code s
       by_explains false is =
           let new = plain is in
           let silent : s.explains ≡ false = sym reading.explains ∙ is in

@@ -21,7 +21,7 @@ use Rattle.lol_machine.specs.RefusalLaws.{fits_on}
 use Rattle.lol_machine.specs.Standing.{DocumentsAreOrdered}
 use Rattle.lol_machine.specs.Views.{selectors}
 use Rattle.lol_machine.specs.Vms.{open_after}
-use Rattle.lol_script.specs.Answering.{Answers, HasSelectors, Hears, numbers_closed, told_event}
+use Rattle.lol_script.specs.Answering.{AnswersScript, HasSelectors, Hears, numbers_closed, told_event}
 use Rattle.lol_script.specs.Output.{comma_list, lines_of}
 use Rattle.lol_script.specs.Scripts.{Script, text_for, with_event}
 use Rattle.lol_script.specs.declared.explained.Explained.{Explained}
@@ -52,10 +52,10 @@ documents_alike : ItemsAnswerAsTexts → (p : Selectors) (s : Script) (ast : Ast
 documents_alike items p s ast None has events = ap (λ (q : Selectors). document q s.esi events) has.1
 documents_alike items p s ast (Some x) has events = (as_texts items p s ast x has events).documents
 
-pub ended_more : ItemsAnswerAsTexts → DocumentsAreOrdered → (code later : ScriptRun) (s : Script) → Answers code s → code.matcher.failed ≡ false → (name : List ℕ) → length (heard code.matcher.told) ≤ 2 ^ 64 - 1
+pub ended_more : ItemsAnswerAsTexts → DocumentsAreOrdered → (code later : ScriptRun) (s : Script) → AnswersScript code s → code.matcher.failed ≡ false → (name : List ℕ) → length (heard code.matcher.told) ≤ 2 ^ 64 - 1
     → later.shows_tries ≡ code.shows_tries → later.explained ≡ code.explained → later.matcher ≡ with_ended code.matcher name
     → later.text.items ≡ code.text.items ++ lines_of ((codes "end" ++ 9 ∷ comma_list (map decimal (numbers_closed code.matcher.open_elements name))) ∷ [])
-    → Answers later (with_event s (End name))
+    → AnswersScript later (with_event s (End name))
 ended_more items ordered code later s run going name few shows same ended written =
     answered_more code later s run going (ap (λ (m : M). m.failed) ended ∙ going) shows (End name) (λ hears has.
     let m = code.matcher in

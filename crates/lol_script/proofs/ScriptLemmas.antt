@@ -13,7 +13,7 @@ use Rattle.lol_machine.specs.Events.{Event}
 use Rattle.lol_script.specs.Script.{Line, line_at}
 use Rattle.lol_script.specs.Scripts as scripts
 use Rattle.lol_script.specs.Scripts.{Script, pairs_in, texts_in, unless_begun, with_bytes, with_meaning}
-use Rattle.lol_script.specs.SelectLines.{Keeps, KeepsLines, KeptLine, text_accepted, text_read}
+use Rattle.lol_script.specs.SelectLines.{HoldsKept, KeepsLines, KeptLine, text_accepted, text_read}
 use Rattle.lol_script.specs.declared.select_lines.SelectLines.{SelectLines}
 use Rattle.lol_script.specs.declared.bad_line.BadLine.{BadLine}
 
@@ -42,7 +42,7 @@ pairs_more s line =
 
 -- a line more is kept
 pub lines_more : (old new : SelectLines) (lines : List scripts.SelectLine) (number id : ℕ) (text : List ℕ) (items : Items) → accept text ≡ Ok items
-    → ((kept : List KeptLine) → Keeps old kept → Keeps new (kept ++ record { number = number; id = id; text = text } ∷ [])) → KeepsLines old lines
+    → ((kept : List KeptLine) → HoldsKept old kept → HoldsKept new (kept ++ record { number = number; id = id; text = text } ∷ [])) → KeepsLines old lines
     → KeepsLines new (lines ++ record { number = number; text = record { id = id; items = items } } ∷ [])
 lines_more old new lines number id text items read keeps before =
     let kept = before.0 in

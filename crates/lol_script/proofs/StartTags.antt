@@ -25,7 +25,7 @@ use Rattle.lol_machine.specs.Events.{Event, Start, has_content}
 use Rattle.lol_machine.specs.RefusalLaws.{fits_on, stops_at}
 use Rattle.lol_machine.specs.Refusals.{Cause, refused}
 use Rattle.lol_machine.specs.Views.{match_of, selectors}
-use Rattle.lol_script.specs.Answering.{Answers, GoesOn, HasSelectors, Hears, IsStarted, IsStopped, answer_with, told_event, told_tag}
+use Rattle.lol_script.specs.Answering.{AnswersScript, GoesOn, HasSelectors, Hears, IsStarted, IsStopped, answer_with, told_event, told_tag}
 use Rattle.lol_script.specs.Explaining.{Explains, IsReasoned, lines_by}
 use Rattle.lol_script.specs.AnswerTexts.{started_text, tries_shown}
 use Rattle.lol_script.specs.Output.{comma_list, lines_of, shown_answer, shown_match, shown_reason, tries_field}
@@ -176,7 +176,7 @@ module _ (items : ItemsAnswerAsTexts) (p : Selectors) (s : Script) (events : Lis
 
 -- 4. One start tag more of a script
 
-module _ (items : ItemsAnswerAsTexts) (code later : ScriptRun) (s : Script) (run : Answers code s) (going : code.matcher.failed ≡ false) (tag : StartTag) (shows : later.shows_tries ≡ code.shows_tries) where
+module _ (items : ItemsAnswerAsTexts) (code later : ScriptRun) (s : Script) (run : AnswersScript code s) (going : code.matcher.failed ≡ false) (tag : StartTag) (shows : later.shows_tries ≡ code.shows_tries) where
   abbrev p : Selectors
   p = run.selectors
 
@@ -184,7 +184,7 @@ module _ (items : ItemsAnswerAsTexts) (code later : ScriptRun) (s : Script) (run
   told = map told_event s.events
 
   pub dropped_more : later.explained ≡ code.explained → IsStarted outcomes.Dropped (told_tag tag) code.matcher later.matcher
-      → later.text.items ≡ code.text.items ++ (codes "dropped" ++ 10 ∷ []) → Answers later (with_event s (Start tag))
+      → later.text.items ≡ code.text.items ++ (codes "dropped" ++ 10 ∷ []) → AnswersScript later (with_event s (Start tag))
   dropped_more same is written = answered_more code later s run going is.goes_on.going shows (Start tag) (λ hears has. (
     hears_more items p s told (told_tag tag) code.matcher code.explained hears has outcomes.Dropped later.matcher is,
     subst (λ (o : Option Explained). HasSelectors p s later.matcher.told.ast o) (sym same) (subst (λ (ast : Ast). HasSelectors p s ast code.explained) (sym is.goes_on.ast) has),
@@ -192,7 +192,7 @@ module _ (items : ItemsAnswerAsTexts) (code later : ScriptRun) (s : Script) (run
   ))
 
   pub reported_more : (asked : Bool) → IsStarted (outcomes.Reported asked) (told_tag tag) code.matcher later.matcher → AreNumbered later.matcher.told
-      → IsReasoned later.matcher code.shows_tries asked code.text.items later.text.items code.explained later.explained → Answers later (with_event s (Start tag))
+      → IsReasoned later.matcher code.shows_tries asked code.text.items later.text.items code.explained later.explained → AnswersScript later (with_event s (Start tag))
   reported_more asked is few reasoned = answered_more code later s run going is.goes_on.going shows (Start tag) (λ hears has.
       let on = by_reasons code.explained later.explained hears has reasoned in
       (hears_more items p s told (told_tag tag) code.matcher code.explained hears has (outcomes.Reported asked) later.matcher is, on.0, on.1))
@@ -216,7 +216,7 @@ module _ (items : ItemsAnswerAsTexts) (code later : ScriptRun) (s : Script) (run
           )
 
   pub stopped_more : (cause : Cause) → IsStopped cause (told_tag tag) code.matcher later.matcher → later.text.items ≡ code.text.items ++ lines_of (shown_cause cause ∷ [])
-      → Answers later (with_event s (Start tag))
+      → AnswersScript later (with_event s (Start tag))
   stopped_more cause is written =
       refused_ends code later s run going (ap (λ (m : M). m.failed) is.after) shows (Start tag) cause
       (λ hears has rest. stops_here items p s told (told_tag tag) code.matcher code.explained hears has cause later.matcher is rest) written

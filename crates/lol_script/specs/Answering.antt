@@ -120,7 +120,7 @@ IsWritten p s code true =
     (later : List Event) → output_for p s (map told_event (s.events ++ later)) ≡ record { text = code.text.items; status = status.Refused }
 
 -- The code has answered the events of a script.
-pub record Answers (code : ScriptRun) (s : Script) : Type 0 where
+pub record AnswersScript (code : ScriptRun) (s : Script) : Type 0 where
   pub selectors : Selectors
   pub same : (events : List Event) → output_for selectors s (map told_event events) ≡ output_for (selectors_in s) s events
   pub shows_tries : code.shows_tries ≡ s.shows_tries
@@ -128,7 +128,7 @@ pub record Answers (code : ScriptRun) (s : Script) : Type 0 where
 
 -- For each script whose events the code has answered.
 abbrev pub ForAnswers : ScriptRun → (Script → Type 0) → Type 0
-ForAnswers code holds = (s : Script) → Answers code s → holds s
+ForAnswers code holds = (s : Script) → AnswersScript code s → holds s
 
 abbrev pub HasTags : Script → Type 0
 HasTags s = s.events ≡ [] → ⊥
@@ -144,9 +144,9 @@ module _ {D : Type 0} (remaining : D → Option (List ℕ)) where
   abbrev pub ForTagLines : Counted D → ReadLines → ScriptRun → (Counted D → Type 0) → Type 0
   ForTagLines reader lines code holds =
       (start : Counted D) (s : Script) → IsReadTo remaining start reader lines lines.number s (lines.line ∷ [])
-      → Answers code s → IsTagIfFirst lines.line s → holds start
+      → AnswersScript code s → IsTagIfFirst lines.line s → holds start
 
   -- The whole script was read, and its events are answered.
   abbrev pub IsReadWhole : Counted D → Counted D → ScriptRun → Type 0
   IsReadWhole start reader code =
-      ReadsToEnd remaining start reader (λ script. (s : Script) × Answers code s × (output script ≡ output_of (Ok s)))
+      ReadsToEnd remaining start reader (λ script. (s : Script) × AnswersScript code s × (output script ≡ output_of (Ok s)))

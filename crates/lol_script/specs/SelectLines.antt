@@ -18,7 +18,7 @@ abbrev pub with_length : KeptLine → code.KeptLine
 with_length kept = record { number = kept.number; id = kept.id; len = length kept.text }
 
 -- The code keeps these lines, and their texts one after another.
-pub record Keeps (lines : SelectLines) (kept : List KeptLine) : Type 0 where
+pub record HoldsKept (lines : SelectLines) (kept : List KeptLine) : Type 0 where
   pub lengths : lines.lines.items ≡ map with_length kept
   pub texts : lines.texts.items ≡ flat_map (λ k. k.text) kept
 
@@ -36,4 +36,4 @@ pub record AreLines (kept : List KeptLine) (lines : List SelectLine) : Type 0 wh
 
 -- The code keeps the lines of a script.
 abbrev pub KeepsLines : SelectLines → List SelectLine → Type 0
-KeepsLines code lines = (kept : List KeptLine) × Keeps code kept × AreLines kept lines
+KeepsLines code lines = (kept : List KeptLine) × HoldsKept code kept × AreLines kept lines

@@ -6,7 +6,7 @@ ghost use Rattle.lol_matcher.specs.Answering.{with_ended};
 ghost use Rattle.lol_program.specs.Asts.{is_with_rows};
 ghost use Rattle.lol_machine.specs.Events.{Start, End};
 ghost use Rattle.lol_machine.specs.Refusals.{Cause};
-ghost use Rattle.lol_script.specs.Answering.{Answers, ForAnswers, HasTags, IsCauseOf, IsNewMatcher, IsStarted, IsStopped, IsTagIfFirst, numbers_closed, told_tag};
+ghost use Rattle.lol_script.specs.Answering.{AnswersScript, ForAnswers, HasTags, IsCauseOf, IsNewMatcher, IsStarted, IsStopped, IsTagIfFirst, numbers_closed, told_tag};
 ghost use Rattle.lol_script.specs.AnswerTexts.{HasListed, tries_shown};
 ghost use Rattle.lol_script.specs.Explaining.{Explains, IsReasoned};
 ghost use Rattle.lol_script.specs.Lines.{AreOutlinesOf, start_tag_of};
@@ -62,7 +62,7 @@ enum Outcome {
 impl ScriptRun {
     /// A run that has answered nothing.
     pub fn new(alloc: Global, settings: Settings) -> Result<Self, AllocError>
-        ensures { IfOk result (λ run. ForReading settings (λ s. Answers run s)) }
+        ensures { IfOk result (λ run. ForReading settings (λ s. AnswersScript run s)) }
     {
         calls_answer_alike();
         told_is_explained_alike();
@@ -91,7 +91,7 @@ impl ScriptRun {
     /// Takes a line; the first is that of a tag.
     pub fn take_line(&mut self, number: u128, line: &[u8]) -> Result<(), Stop>
         ensures taken { OnOk result (ForAnswers self.old (λ s. IsTagIfFirst line.now s → (t : scripts.Script)
-            × Answers self.new t × (with_bytes number s line.now ≡ Ok t) × HasTags t)) }
+            × AnswersScript self.new t × (with_bytes number s line.now ≡ Ok t) × HasTags t)) }
         ensures stop { IfErr result (λ stop. ForAnswers self.old (λ s. IsTagIfFirst line.now s
             → Stops stop (with_bytes number s line.now))) }
     {
@@ -116,7 +116,7 @@ impl ScriptRun {
     fn take_start(&mut self, line: StartLine<'_>) -> Result<(), AllocError>
         requires { AreOutlinesOf line.attributes self.old.outlines.items }
         ensures { OnOk result (ForAnswers self.old (λ s.
-            Answers self.new (with_event s (Start (start_tag_of line.entry))))) }
+            AnswersScript self.new (with_event s (Start (start_tag_of line.entry))))) }
     {
         if self.matcher.has_failed() {
             return Ok(());
@@ -179,7 +179,7 @@ impl ScriptRun {
 
     /// Answers an end tag, unless a tag was refused.
     fn take_end(&mut self, name: &[u8]) -> Result<(), AllocError>
-        ensures { OnOk result (ForAnswers self.old (λ s. Answers self.new (with_event s (End name.now)))) }
+        ensures { OnOk result (ForAnswers self.old (λ s. AnswersScript self.new (with_event s (End name.now)))) }
     {
         if self.matcher.has_failed() {
             return Ok(());

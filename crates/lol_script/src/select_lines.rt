@@ -9,7 +9,7 @@ ghost use Rattle.lol_reasons.specs.Numbered.{HoldsItems, texts_in as read_texts}
 ghost use Rattle.lol_script.specs.Scripts as scripts;
 ghost use Rattle.lol_script.specs.Scripts.{texts_in};
 ghost use Rattle.lol_script.specs.SelectLines as lines;
-ghost use Rattle.lol_script.specs.SelectLines.{Keeps, KeepsLines, text_accepted, text_read};
+ghost use Rattle.lol_script.specs.SelectLines.{HoldsKept, KeepsLines, text_accepted, text_read};
 
 use crate::lines::text_of;
 use crate::settings::with_rows_if;
@@ -35,7 +35,7 @@ pub struct SelectLines {
 impl SelectLines {
     /// No lines. It takes no memory.
     pub fn new(alloc: Global) -> Self
-        ensures { Keeps result [] }
+        ensures { HoldsKept result [] }
     {
         SelectLines {
             lines: Vec::new(alloc),
@@ -45,8 +45,8 @@ impl SelectLines {
 
     /// Adds a line.
     pub fn push(&mut self, number: u128, id: u32, text: &str) -> Result<(), AllocError>
-        ensures { OnOk result ((kept : List lines.KeptLine) → Keeps self.old kept
-            → Keeps self.new (kept ++ record { number = number; id = id; text = text.now } ∷ [])) }
+        ensures { OnOk result ((kept : List lines.KeptLine) → HoldsKept self.old kept
+            → HoldsKept self.new (kept ++ record { number = number; id = id; text = text.now } ∷ [])) }
     {
         self.texts.extend_from_slice(text.as_bytes())?;
         self.lines.push(KeptLine {
@@ -70,7 +70,7 @@ impl SelectLines {
 
     /// The selectors of the lines, under their ids. Each text is read again.
     pub fn read(&self, alloc: Global) -> Result<Texts, AllocError>
-        ensures { IfOk result (λ read. (kept : List lines.KeptLine) → Keeps self.now kept
+        ensures { IfOk result (λ read. (kept : List lines.KeptLine) → HoldsKept self.now kept
             → map text_read kept ≡ map text_accepted (read_texts read)) }
     {
         let mut read = Texts::new(alloc);

@@ -5,7 +5,7 @@
 
 ghost use Rattle.std.specs.Prelude.{◌≡◌, ◌==◌, IfOk, if◌then◌else◌};
 ghost use Rattle.std.specs.List.{list_any};
-ghost use Rattle.lol_matcher.specs.Answering.{Answers};
+ghost use Rattle.lol_matcher.specs.Answering.{AnswersStart};
 
 use anyhow::Result;
 use lol_matcher::{Attributes, Matcher, MatcherError, Namespace, Started};
@@ -73,7 +73,7 @@ fn checker(alloc: Global) -> Result<Matcher> {
 
 /// Tells the matcher of a start tag, and answers true exactly if the definitions want its attributes.
 fn asks(matcher: &mut Matcher, name: &[u8], ns: Namespace) -> Result<bool, MatcherError>
-    ensures { IfOk result (λ asked. Answers (if asked then Started.NeedsAttributes else Started.Reported)
+    ensures { IfOk result (λ asked. AnswersStart (if asked then Started.NeedsAttributes else Started.Reported)
         matcher.old.told name.now ns matcher.new.matched matcher.new.tries) }
 {
     match matcher.start(name, ns)? {

@@ -2,7 +2,7 @@
 use Rattle.std.proofs.Common.{◌≡◌, ℕ, Bool, true, false, List, Result, Ok, Err, refl, sym, ap, ◌∙◌, subst}
 use Rattle.std.specs.Prelude.{IfErr, IfOk}
 use Rattle.lol_base.specs.declared.namespace.Namespace.{Namespace}
-use Rattle.lol_matcher.specs.Answering.{Answers, OpensStart, refused_with, told_after, with_told}
+use Rattle.lol_matcher.specs.Answering.{AnswersStart, OpensStart, refused_with, told_after, with_told}
 use Rattle.lol_matcher.specs.Keeping.{IsRefusal}
 use Rattle.lol_matcher.specs.Refusing.{Fits}
 use Rattle.lol_matcher.specs.Told.{Matching}
@@ -45,7 +45,7 @@ module _ (old new : Matching ℕ) where
         by_failed true is = keeps old (stuck is) refl
         by_failed false is = keeps (refused_with old new) (after is) refl
 
-    pub answered : (r : Result Started MatcherError) → IfOk r (λ started. Answers started old.told name ns new.matched new.tries) → IfOk r (λ started. OpensStart started name ns old new)
+    pub answered : (r : Result Started MatcherError) → IfOk r (λ started. AnswersStart started old.told name ns new.matched new.tries) → IfOk r (λ started. OpensStart started name ns old new)
         → IfOk r (λ started. new ≡ with_told (told_after started old.told name ns) old new) → IfOk r (λ started. (old.failed ≡ false) × Fits started old name ns) → (started : Started) → r ≡ Ok started → StartIsAnswered started old name ns new
     answered (Ok x) answers opens told fits started is =
         let same : x ≡ started = cc in

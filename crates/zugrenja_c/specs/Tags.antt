@@ -5,7 +5,7 @@ use Rattle.lol_base.specs.declared.namespace.Namespace.{Namespace}
 use Rattle.lol_base.specs.declared.start_tag.AttributeOutline.{AttributeOutline}
 use Rattle.lol_machine.specs.Events.{Start}
 use Rattle.lol_machine.specs.Vms.{open_after}
-use Rattle.lol_matcher.specs.Answering.{Answers, IsFinishedAs, OpensFor, OpensStart, refused_with, told_after, with_ended, with_told, with_value}
+use Rattle.lol_matcher.specs.Answering.{AnswersStart, IsFinishedAs, OpensFor, OpensStart, refused_with, told_after, with_ended, with_told, with_value}
 use Rattle.lol_matcher.specs.Refusing.{Fits, RefusesFinish, RefusesStart, refusal_of}
 use Rattle.lol_matcher.specs.Told.{Told, Matching}
 use Rattle.lol_matcher.specs.declared.error.MatcherError.{MatcherError}
@@ -23,7 +23,7 @@ use Rattle.zugrenja_c.specs.declared.closing.Closing.{Closing}
 -- A start tag of this name and namespace was answered so.
 pub record StartIsAnswered (started : Started) (old : Matching ℕ) (name : List ℕ) (ns : Namespace) (new : Matching ℕ) : Type 0 where
   pub running : old.failed ≡ false
-  pub answers : Answers started old.told name ns new.matched new.tries
+  pub answers : AnswersStart started old.told name ns new.matched new.tries
   pub opens : OpensStart started name ns old new
   pub told : new ≡ with_told (told_after started old.told name ns) old new
   pub fits : Fits started old name ns

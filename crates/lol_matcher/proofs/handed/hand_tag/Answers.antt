@@ -90,7 +90,7 @@ returns-in-Err-Memory-clause-refused g c = λ s esi events tag runs named spaced
     let is = c.in-Err-Memory.is ∙ ap Err c.in-Err-Memory.field-0-is in
     let charged = charged_for laws.depths laws.counts laws.ordered s esi events c.args.vm.now c.args.limiter.now runs in
     let room = has_place laws.depths laws.counts laws.ordered s esi events c.args.vm.now c.args.limiter.now runs tag (has_room c.args.vm.now runs.stands.unfailed _ call.full (other_answer is (λ same. cc))) in
-    refused_for_memory s esi charged tag room (λ free opening limited. c.in-Err-Memory.ensures.due limited s esi events tag runs.stands (c.new-local_name.ensures ∙ ap local_name (sym named), spaced) free c.in-Err-Memory.field-0-is)
+    refused_for_memory s esi charged tag room (λ no_memory opening limited. c.in-Err-Memory.ensures.due limited s esi events tag runs.stands (c.new-local_name.ensures ∙ ap local_name (sym named), spaced) no_memory c.in-Err-Memory.field-0-is)
 
 pub returns-in-Err-Failed-clause-refused : goal.returns-in-Err-Failed-clause-refused
 returns-in-Err-Failed-clause-refused g c = λ s esi events tag runs named spaced rest.

@@ -69,7 +69,7 @@ returns-in-Err-Memory-clause-refused g c = λ s esi events tag past pending rest
     let charged = charged_before laws.depths laws.counts laws.ordered s esi events past.tag c.args.vm.now c.args.limiter.now past.runs past.dropped in
     let room = room_before laws.depths laws.counts laws.ordered s esi events past.tag c.args.vm.now c.args.limiter.now past.runs past.dropped in
     let is = c.in-Err-Memory.is ∙ ap Err c.in-Err-Memory.field-0-is in
-    refused_for_memory s esi charged tag room (λ free opening limited. c.finish_start_tag.ensures.due _ is limited s esi events tag pending free)
+    refused_for_memory s esi charged tag room (λ no_memory opening limited. c.finish_start_tag.ensures.due _ is limited s esi events tag pending no_memory)
 
 pub returns-in-Ok-clause-tried : goal.returns-in-Ok-clause-tried
 returns-in-Ok-clause-tried g c = λ s esi events tag pending rest.

@@ -103,7 +103,7 @@ returns-in-Err-Memory-clause-refused g c = λ s esi events tag runs named spaced
     let is = c.in-Err-Memory.is ∙ ap Err c.in-Err-Memory.field-0-is in
     let charged = charged_for laws.depths laws.counts laws.ordered s esi events c.args.vm.now c.args.limiter.now runs in
     let room = has_place laws.depths laws.counts laws.ordered s esi events c.args.vm.now c.args.limiter.now runs tag (has_room c.args.vm.now runs.stands.unfailed _ call.full (other_answer is (λ same. cc))) in
-    refused_for_memory s esi charged tag room (λ free opening limited. call.due _ is limited s esi events tag runs.stands (c.new.ensures ∙ ap local_name (sym named), spaced) free)
+    refused_for_memory s esi charged tag room (λ no_memory opening limited. call.due _ is limited s esi events tag runs.stands (c.new.ensures ∙ ap local_name (sym named), spaced) no_memory)
 
 pub returns-in-Err-Failed-clause-refused : goal.returns-in-Err-Failed-clause-refused
 returns-in-Err-Failed-clause-refused g c = λ s esi events tag runs named spaced.

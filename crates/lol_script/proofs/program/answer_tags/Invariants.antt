@@ -1,5 +1,5 @@
 use Rattle.std.proofs.Common.{◌≡◌, ◌-◌, ◌^◌, ◌∷◌, []}
-use Rattle.lol_script.specs.Answering.{Answers, IsTagIfFirst}
+use Rattle.lol_script.specs.Answering.{AnswersScript, IsTagIfFirst}
 use Rattle.lol_script.specs.Devices.{failures_of}
 use Rattle.lol_script.specs.Readings.{IsReadTo}
 use Rattle.lol_script.specs.Scripts as scripts
@@ -10,8 +10,8 @@ abbrev pub invariant-loop-lines : goal.invariant-loop-lines
 invariant-loop-lines g l =
     record {
       read : (start : Counted g.row.R.Denot) (s : scripts.Script) → IsReadTo g.R.Read.remaining start l.fn.reader l.fn.lines l.fn.lines.number s (l.fn.lines.line ∷ [])
-          → Answers l.fn.run s → IsTagIfFirst l.fn.lines.line s
-          → (t : scripts.Script) × IsReadTo g.R.Read.remaining start l.reader l.lines l.lines.number t (l.lines.line ∷ []) × Answers l.run t × IsTagIfFirst l.lines.line t;
+          → AnswersScript l.fn.run s → IsTagIfFirst l.fn.lines.line s
+          → (t : scripts.Script) × IsReadTo g.R.Read.remaining start l.reader l.lines l.lines.number t (l.lines.line ∷ []) × AnswersScript l.run t × IsTagIfFirst l.lines.line t;
       failures : failures_of l.reader ≡ failures_of l.fn.reader;
     }
 

@@ -4,7 +4,7 @@ use Rattle.lol_base.specs.declared.start_tag.AttributeOutline.{AttributeOutline}
 use Rattle.lol_program.specs.Paths.{Selectors}
 use Rattle.lol_machine.specs.Events.{Event}
 use Rattle.lol_machine.specs.Events as events
-use Rattle.lol_script.specs.Answering.{Answers, IsWritten}
+use Rattle.lol_script.specs.Answering.{AnswersScript, IsWritten}
 use Rattle.lol_script.specs.Lines.{start_tag_of}
 use Rattle.lol_script.specs.Scripts.{Script, with_event}
 use Rattle.lol_script.specs.declared.script_run.ScriptRun.{ScriptRun}
@@ -23,7 +23,7 @@ module _ (code : ScriptRun) (outlines : Vec AttributeOutline) (s : Script) where
   cut_is_written selectors true written = written
 
   -- the outlines of a tag's attributes are no answer
-  cut_answers : Answers code s → Answers (record code { outlines = outlines }) s
+  cut_answers : AnswersScript code s → AnswersScript (record code { outlines = outlines }) s
   cut_answers answers = record {
     selectors = answers.selectors;
     same = answers.same;

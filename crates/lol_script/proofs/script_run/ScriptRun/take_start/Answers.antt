@@ -1,7 +1,7 @@
 use Rattle.std.proofs.Common.{rules, ◌≡◌, Ok, Err, refl, sym, ◌∙◌, subst}
 use Rattle.std.proofs.lemmas.Result.{on_ok_weaker}
 use Rattle.lol_machine.specs.Events.{Start}
-use Rattle.lol_script.specs.Answering.{Answers}
+use Rattle.lol_script.specs.Answering.{AnswersScript}
 use Rattle.lol_script.specs.Lines.{start_tag_of}
 use Rattle.lol_script.specs.Scripts.{with_event}
 use Rattle.lol_script.specs.declared.script_run.Outcome.TheVariants.{Dropped, Reported}
@@ -28,7 +28,7 @@ returns-in-Ok-Reported c = on_ok_weaker c.push_answer.result
     let going = sym c.has_failed.ensures ∙ c.if-has_failed.false in
     let is : c.answer_start.result ≡ Ok (Reported c.in-Ok-Reported.asked) = search rules in
     let started = at_ok _ c.answer_start.result (Reported c.in-Ok-Reported.asked) is c.answer_start.ensures.started in
-    subst (λ (later : ScriptRun). Answers later (with_event s (Start (start_tag_of c.args.line)))) (sym c.push_answer.ensures.kept)
+    subst (λ (later : ScriptRun). AnswersScript later (with_event s (Start (start_tag_of c.args.line)))) (sym c.push_answer.ensures.kept)
     (reported_more c.items_answer_as_texts.ensures c.args.self.now _ s answers going (start_tag_of c.args.line) refl c.in-Ok-Reported.asked started
     (few_heard c.tags_told.result _ _ _ (c.tags_told.ensures going) c.if-tags_told-eq18446744073709551615.false started.goes_on.heard_more) pushed))
     c.push_answer.ensures.text
@@ -38,7 +38,7 @@ returns-in-Err c = on_ok_weaker c.refuse.result
     (λ text s answers.
     let going = sym c.has_failed.ensures ∙ c.if-has_failed.false in
     let is : c.answer_start.result ≡ Err c.in-Err.error = search rules in
-    subst (λ (later : ScriptRun). Answers later (with_event s (Start (start_tag_of c.args.line)))) (sym c.refuse.ensures.kept)
+    subst (λ (later : ScriptRun). AnswersScript later (with_event s (Start (start_tag_of c.args.line)))) (sym c.refuse.ensures.kept)
     (stopped_more c.items_answer_as_texts.ensures c.args.self.now _ s answers going (start_tag_of c.args.line) refl text.0
     (at_err _ c.answer_start.result c.in-Err.error is c.answer_start.ensures.stopped text.0 text.1) text.2))
     c.refuse.ensures.text
