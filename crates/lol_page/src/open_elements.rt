@@ -1,6 +1,6 @@
 //! The open elements.
 
-ghost use Rattle.std.specs.Prelude.{◌≡◌, ◌≢◌, ◌+◌, ◌-◌, ◌<◌, ◌∷◌, [], Some, None, if◌then◌else◌, length, drop, reverse, OnOk, IfOk, option_copied};
+ghost use Rattle.std.specs.Prelude.{◌≡◌, ◌≢◌, ◌+◌, ◌-◌, ◌<◌, ◌∷◌, [], Some, None, if◌then◌else◌, length, drop, reverse, OnOk, IfOk, IsTrue, option_copied};
 ghost use Rattle.lol_stack.specs.NameMaps.{value_of, IsPutAt};
 ghost use Rattle.lol_page.specs.Elements.{IsSound, elements_of, first_of, innermost_holds_html, depth_by, shield_depth, html_element, point_element};
 ghost use Rattle.lol_page.specs.Namespaces as names;
@@ -212,8 +212,30 @@ impl OpenElements {
         }
     }
 
+    // Whether the innermost element has that name: mostly so, where an end tag comes.
+    fn is_innermost(&self, name: &LocalName<'_>) -> bool
+        ensures { IsTrue result → names.closed_by name.now (elements_of self.now) ≡ drop 1 (elements_of self.now) }
+    {
+        match self.innermost() {
+            Some(item) => item.name == *name,
+            None => false,
+        }
+    }
+
     // Closes the innermost element of a name and all inside it, if none of those shields it.
     pub(crate) fn close(&mut self, name: &LocalName<'_>)
+        requires { IsSound self.old }
+        ensures sound { IsSound self.new }
+        ensures closed { elements_of self.new ≡ names.closed_by name.now (elements_of self.old) }
+    {
+        if self.is_innermost(name) {
+            self.pop();
+        } else {
+            self.close_around(name);
+        }
+    }
+
+    fn close_around(&mut self, name: &LocalName<'_>)
         requires { IsSound self.old }
         ensures sound { IsSound self.new }
         ensures closed { elements_of self.new ≡ names.closed_by name.now (elements_of self.old) }

@@ -17,6 +17,7 @@ ghost use Rattle.lol_stack.specs.Stacks.{items_in, list_in, slots_in, item_bytes
 use crate::active_ranges::ActiveRanges;
 use crate::counters::TypedChildCounterMap;
 use crate::directive::directive_of;
+use crate::name_map::NamePlace;
 use crate::open_names::OpenNames;
 use crate::stack_item::{StackDirective, StackItem, StackItemOf};
 use lol_base::{LocalName, Namespace};

@@ -3,7 +3,7 @@ use Rattle.std.specs.Prelude.{if◌then◌else◌}
 use Rattle.std.proofs.lemmas.Bool.{lt-ltb, le-ltb}
 use Rattle.lol_page.specs.Elements.{elements_of, shield_depth}
 use Rattle.lol_page.proofs.Opening.{found-deep, closed-some, closed-none}
-use Rattle.lol_page.proofs.open_elements.OpenElements.close.Goals as goal
+use Rattle.lol_page.proofs.open_elements.OpenElements.close_around.Goals as goal
 
 pub leave_from-requires-clause-some : goal.leave_from-requires-clause-some
 leave_from-requires-clause-some c =
