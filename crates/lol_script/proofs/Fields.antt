@@ -15,7 +15,7 @@ use Rattle.std.proofs.lemmas.List.Sums.{fails_before_first, passes_at_first, pos
 use Rattle.lol_base.specs.BoolLaws.{not_true}
 use Rattle.lol_base.specs.CodePoints.{tab}
 use Rattle.memchr.specs.Find.{IsFirstByte, Nowhere, Passes}
-use Rattle.lol_script.specs.Script.{Line, Select, is_tab, limit_at, rows_at, select_at, end_at, of_kind, from_fields, line_at, number_up_to}
+use Rattle.lol_script.specs.Script.{Line, Select, is_tab, limit_at, rows_at, select_at, start_at, end_at, of_kind, from_fields, line_at, number_up_to}
 
 pub pos_in : (n m : ℕ) → cond (nat_lt n m) (Some n) None ≡ None → m ≤ n
 pos_in n m h = grind (arith, nat_tests)
@@ -168,3 +168,10 @@ bare_or_none bytes start end drops select limit rows = by_tab (position is_tab b
         ∙ sym (ap from_fields (split_some bytes n h)
         ∙ none_of_kind kind rest (isnt_kind bytes kind rest _ is limit) (isnt_kind bytes kind rest _ is rows) (isnt_kind bytes kind rest _ is select)
         (isnt_kind bytes kind rest _ is start) (isnt_kind bytes kind rest _ is drops) (isnt_kind bytes kind rest _ is end))
+
+-- a line by what follows its kind
+pub start_line_at : (bytes rest : List ℕ) → bytes ≡ codes "start" ++ tab ∷ rest → start_at true (slice_split is_tab rest) ≡ line_at bytes
+start_line_at bytes rest is = sym (ap line_at is)
+
+pub end_line_at : (bytes rest : List ℕ) → bytes ≡ codes "end" ++ tab ∷ rest → end_at (slice_split is_tab rest) ≡ line_at bytes
+end_line_at bytes rest is = sym (ap line_at is)

@@ -6,7 +6,7 @@ ghost use Rattle.std.specs.List.{slice_split, list_all};
 ghost use Rattle.lol_base.specs.CodePoints.{tab};
 ghost use Rattle.lol_script.specs.Script.{is_tab, is_named, attribute_at, namespace_at, number_up_to, limit_at, rows_at, select_at, start_at, end_at, of_kind, line_at};
 ghost use Rattle.lol_base.specs.declared.start_tag.AttributeOutline.{AttributeOutline};
-ghost use Rattle.lol_script.specs.Lines.{HasOutlines, fields_of, said_by};
+ghost use Rattle.lol_script.specs.Lines.{AreOutlinesOf, HasOutlines, fields_of, said_by};
 
 use crate::tags::cut_attributes;
 use lol_base::{AttributeBuffer, Namespace};
@@ -212,10 +212,10 @@ fn start_in<'s>(
     rest: &'s [u8],
     finish: bool,
     outlines: &mut AttributeBuffer,
-) -> Result<Option<Line<'s>>, AllocError>
-    ensures said { IfOk result (λ line. (field : List ℕ) → Some namespace ≡ namespace_at field
-        → option_map said_by line ≡ start_at finish (field ∷ slice_split is_tab rest.now)) }
-    ensures outlines { IfOk result (λ line. IfSome line (HasOutlines outlines.new.items)) }
+) -> Result<Option<StartLine<'s>>, AllocError>
+    ensures said { IfOk result (λ start. (field : List ℕ) → Some namespace ≡ namespace_at field
+        → option_map (λ line. said_by (Line.Start line)) start ≡ start_at finish (field ∷ slice_split is_tab rest.now)) }
+    ensures outlines { IfOk result (λ start. IfSome start (λ line. AreOutlinesOf line.attributes outlines.new.items)) }
 {
     let (name, attributes) = first_field(rest);
     let named = cut_attributes(attributes, outlines)?;
@@ -223,13 +223,13 @@ fn start_in<'s>(
         return Ok(None);
     }
     let (ns, self_closing) = namespace;
-    Ok(Some(Line::Start(StartLine {
+    Ok(Some(StartLine {
         name,
         ns,
         self_closing,
         attributes,
         finish,
-    })))
+    }))
 }
 
 /// A namespace, whether the tag closes itself, and what follows, by what follows the kind of a line. Most tags are of HTML.
@@ -246,15 +246,19 @@ fn namespaced(rest: &[u8]) -> Option<((Namespace, bool), &[u8])>
     Some((namespace_of(namespace)?, rest))
 }
 
-/// A start tag, by what follows the kind of its line.
+/// A start tag, by what follows the kind of its line. Its attributes are cut into the outlines.
+///
+/// # Errors
+/// Out of memory.
 #[inline(always)]
-fn start_of<'s>(
+pub fn start_of<'s>(
     rest: &'s [u8],
     finish: bool,
     outlines: &mut AttributeBuffer,
-) -> Result<Option<Line<'s>>, AllocError>
-    ensures said { IfOk result (λ line. option_map said_by line ≡ start_at finish (slice_split is_tab rest.now)) }
-    ensures outlines { IfOk result (λ line. IfSome line (HasOutlines outlines.new.items)) }
+) -> Result<Option<StartLine<'s>>, AllocError>
+    ensures said { IfOk result (λ start. option_map (λ line. said_by (Line.Start line)) start
+        ≡ start_at finish (slice_split is_tab rest.now)) }
+    ensures outlines { IfOk result (λ start. IfSome start (λ line. AreOutlinesOf line.attributes outlines.new.items)) }
 {
     match namespaced(rest) {
         Some((namespace, rest)) => start_in(namespace, rest, finish, outlines),
@@ -262,21 +266,21 @@ fn start_of<'s>(
     }
 }
 
+/// The name of an end tag, by what follows the kind of its line.
 #[tactic(auto, using(crate::proofs::Fields::end_too_long))]
 #[inline(always)]
-fn end_of(rest: &[u8]) -> Option<Line<'_>>
-    ensures said { option_map said_by result ≡ end_at (slice_split is_tab rest.now) }
-    ensures outlines { (outlines : List AttributeOutline) → IfSome result (HasOutlines outlines) }
+pub fn end_of(rest: &[u8]) -> Option<&[u8]>
+    ensures { option_map (λ name. said_by (Line.End name)) result ≡ end_at (slice_split is_tab rest.now) }
 {
     if cut(rest).is_some() || rest.is_empty() {
         return None;
     }
-    Some(Line::End { name: rest })
+    Some(rest)
 }
 
 /// What follows a line's first field, if it is this one.
 #[inline(always)]
-fn after_kind<'s>(bytes: &'s [u8], kind: &[u8]) -> Option<&'s [u8]>
+pub fn after_kind<'s>(bytes: &'s [u8], kind: &[u8]) -> Option<&'s [u8]>
     ensures some { IfSome result (λ rest. bytes.now ≡ kind.now ++ tab ∷ rest.now) }
     ensures none { IfNone result ((rest : List ℕ) → bytes.now ≢ kind.now ++ tab ∷ rest) }
 {
@@ -306,9 +310,20 @@ fn bare_line(kind: &[u8]) -> Option<Line<'static>>
     }
 }
 
+/// What a start line says, if it has the form of one.
+#[inline(always)]
+fn as_line(start: Option<StartLine<'_>>) -> Option<Line<'_>>
+    ensures { result ≡ option_map (λ line. Line.Start line) start.entry }
+{
+    match start {
+        Some(start) => Some(Line::Start(start)),
+        None => None,
+    }
+}
+
 /// What a line says that is neither of a start tag whose attributes may be asked for nor of an end tag.
 #[inline(never)]
-fn other_line<'s>(
+pub fn other_line<'s>(
     bytes: &'s [u8],
     outlines: &mut AttributeBuffer,
 ) -> Result<Option<Line<'s>>, AllocError>
@@ -319,7 +334,7 @@ fn other_line<'s>(
     if let Some(rest) = after_kind(bytes, b"select") {
         Ok(select_of(rest))
     } else if let Some(rest) = after_kind(bytes, b"drop") {
-        start_of(rest, false, outlines)
+        Ok(as_line(start_of(rest, false, outlines)?))
     } else if let Some(rest) = after_kind(bytes, b"limit") {
         Ok(limit_of(rest))
     } else if let Some(rest) = after_kind(bytes, b"rows") {
@@ -333,7 +348,6 @@ fn other_line<'s>(
 ///
 /// # Errors
 /// `AllocError`, out of memory.
-#[inline(always)]
 pub fn line_of<'s>(
     bytes: &'s [u8],
     outlines: &mut AttributeBuffer,
@@ -342,9 +356,9 @@ pub fn line_of<'s>(
     ensures outlines { IfOk result (λ line. IfSome line (HasOutlines outlines.new.items)) }
 {
     if let Some(rest) = after_kind(bytes, b"start") {
-        start_of(rest, true, outlines)
+        Ok(as_line(start_of(rest, true, outlines)?))
     } else if let Some(rest) = after_kind(bytes, b"end") {
-        Ok(end_of(rest))
+        Ok(end_of(rest).map(|name| Line::End { name }))
     } else {
         other_line(bytes, outlines)
     }

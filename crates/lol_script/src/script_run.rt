@@ -1,6 +1,6 @@
 //! The tags of a script, each answered as its line is read.
 
-ghost use Rattle.std.specs.Prelude.{◌≡◌, ◌∷◌, ◌++◌, [], List, ℕ, IfErr, IfOk, IfSome, IsSome, OnOk, None, Ok, false, true};
+ghost use Rattle.std.specs.Prelude.{◌≡◌, ◌∷◌, ◌++◌, [], List, ℕ, IfErr, IfOk, IfSome, IsOk, IsSome, OnOk, None, Ok, false, true};
 ghost use Rattle.lol_instructions.specs.Tries.{attributes_counted, names_counted};
 ghost use Rattle.lol_matcher.specs.Answering.{with_ended};
 ghost use Rattle.lol_program.specs.Asts.{is_with_rows};
@@ -18,7 +18,7 @@ ghost use Rattle.lol_script.specs.SelectLines.{KeepsLines};
 
 use crate::device::RunFault;
 use crate::explained::Explained;
-use crate::lines::{Line, StartLine, line_of};
+use crate::lines::{Line, StartLine, after_kind, end_of, other_line, start_of};
 use crate::output::{ClosedList, push_line, push_started};
 use crate::program::Status;
 use crate::select_lines::SelectLines;
@@ -98,15 +98,22 @@ impl ScriptRun {
         if line.is_empty() {
             return Ok(());
         }
-        match line_of(line, &mut self.outlines) {
-            Ok(Some(Line::Start(start))) => match self.take_start(start) {
-                Ok(()) => Ok(()),
+        if let Some(rest) = after_kind(line, b"start") {
+            return match start_of(rest, true, &mut self.outlines) {
+                Ok(Some(start)) => in_memory(self.take_start(start)),
+                Ok(None) => Err(malformed(number)),
                 Err(_) => Err(Stop::Fault(RunFault::Memory)),
-            },
-            Ok(Some(Line::End { name })) => match self.take_end(name) {
-                Ok(()) => Ok(()),
-                Err(_) => Err(Stop::Fault(RunFault::Memory)),
-            },
+            };
+        }
+        if let Some(rest) = after_kind(line, b"end") {
+            return match end_of(rest) {
+                Some(name) => in_memory(self.take_end(name)),
+                None => Err(malformed(number)),
+            };
+        }
+        match other_line(line, &mut self.outlines) {
+            Ok(Some(Line::Start(start))) => in_memory(self.take_start(start)),
+            Ok(Some(Line::End { name })) => in_memory(self.take_end(name)),
             Ok(None) | Ok(Some(Line::Setting(_))) => Err(malformed(number)),
             Err(_) => Err(Stop::Fault(RunFault::Memory)),
         }
@@ -207,6 +214,18 @@ impl ScriptRun {
             Status::Good
         };
         (self.text, status)
+    }
+}
+
+/// What became of a line, unless there was no memory for its answer.
+#[inline(always)]
+fn in_memory(taken: Result<(), AllocError>) -> Result<(), Stop>
+    ensures taken { OnOk result (IsOk taken) }
+    ensures refused { IfErr result (λ stop. stop ≡ Stop.Fault RunFault.Memory) }
+{
+    match taken {
+        Ok(()) => Ok(()),
+        Err(_) => Err(Stop::Fault(RunFault::Memory)),
     }
 }
 
