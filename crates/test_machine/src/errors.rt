@@ -1,6 +1,6 @@
 //! What errors say, and how they are passed on as a caller's own: no contract says it.
 
-use crate::machine_runs::Machine;
+use lol_matcher::{AddError, ErrorLocation, MatcherError};
 use lol_vm::{
     AddChildError, Ast, Attributes, LocalName, MatchInfo, Namespace, RunCause, RunRefusal, RunStop,
     SelectorError, SelectorMatchingVm, SharedMemoryLimiter, StartTagError, TagEvent, TagReport,
@@ -12,6 +12,8 @@ use std::process::Abort;
 use std::test::Fail;
 use test_kit::{Numbered, selectors};
 use thiserror::Error;
+
+type Machine = SelectorMatchingVm<Numbered>;
 
 /// A caller's own error.
 #[derive(Debug, Drop, Error)]
@@ -128,11 +130,42 @@ const OF_START_TAGS: [(StartTagError, &str); 4] = [
     (StartTagError::Failed, FAILED),
 ];
 
-fn all_say(rt: &impl Abort, alloc: Global, rows: &[(StartTagError, &str)]) -> Result<(), Fail> {
+/// What the errors of a matcher say.
+const OF_MATCHERS: [(MatcherError, &str); 6] = [
+    (
+        MatcherError::MemoryLimitExceeded,
+        "the memory limit would have been passed: too many elements are open at a time",
+    ),
+    (MatcherError::Memory, "out of memory"),
+    (MatcherError::CounterFull, MANY),
+    (MatcherError::Failed, FAILED),
+    (
+        MatcherError::NotAsked,
+        "no start tag waits for its attributes",
+    ),
+    (
+        MatcherError::OutsideInput,
+        "the range of an attribute's name or value lies outside the input",
+    ),
+];
+
+fn all_say<E: Display>(rt: &impl Abort, alloc: Global, rows: &[(E, &str)]) -> Result<(), Fail> {
     for (error, wanted) in rows {
         says(rt, alloc, error, wanted)?;
     }
     Ok(())
+}
+
+const DANGLING: AddError = AddError::Refused {
+    cause: SelectorError::DanglingCombinator,
+    location: ErrorLocation { item: 1, offset: 8 },
+};
+
+#[test]
+fn say_why_a_matcher_refused(rt: HostRuntime) -> Result<(), Fail> {
+    let wanted = "Dangling combinator in selector. (item 1, byte 8)";
+    says(&rt, rt.alloc(), &DANGLING, wanted)?;
+    all_say(&rt, rt.alloc(), &OF_MATCHERS)
 }
 
 #[test]
@@ -158,17 +191,4 @@ fn say_which_event_was_refused(rt: HostRuntime) -> Result<(), Fail> {
         &refusal,
         "event 7 was refused: an element has as many children as can be counted",
     )
-}
-
-/// Whether a machine answers a `div` before it is discarded.
-fn answers_div(vm: Machine, limiter: &mut SharedMemoryLimiter) -> bool {
-    answer(vm, limiter, b"div").is_ok()
-}
-
-#[test]
-fn leave_the_charge_of_a_discarded_machine(rt: HostRuntime) -> Result<(), Fail> {
-    let vm = machine(rt.alloc(), "div")?;
-    let mut limiter = SharedMemoryLimiter::new(1000);
-    assert!(rt; answers_div(vm, &mut limiter) && limiter.current_usage() == 512);
-    Ok(())
 }

@@ -1,6 +1,5 @@
 //! The caller of the crate's page that explains, as it is written there: one that isn't accepted by the compiler would stay on the page.
 
-use crate::explained_rows::is_reason;
 use lol_matcher::{Matcher, Namespace, Numbering, Texts, read_selector};
 use std::process::Abort;
 use std::test::Fail;
@@ -20,7 +19,7 @@ fn explains_beside_a_matcher(rt: HostRuntime) -> Result<(), Fail> {
     matcher.start(b"main", Namespace::Html)?;
     matcher.start(b"a", Namespace::Html)?;
     let reasons = matcher.explain(alloc, &explainer)?;
-    assert!(rt; reasons.len() == 1 && is_reason(&reasons[0], 7, 0, 1, &[1, 0]));
+    assert!(rt; reasons.len() == 1 && reasons[0].witness.as_slice() == [1, 0].as_slice());
     matcher.report(&explainer, &mut ids);
     assert!(rt; ids.as_slice() == [7].as_slice());
     let mut path: Vec<usize> = Vec::new(alloc);
