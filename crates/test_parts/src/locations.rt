@@ -68,17 +68,6 @@ fn begin_with_the_first_refused_token(rt: HostRuntime) -> Result<(), Fail> {
     Ok(())
 }
 
-/// Texts that are accepted.
-const ACCEPTED: [&str; 6] = ["a", "a, b > c", ":not(a, b", "[a=\"b", "\\", "a\r\n/* , "];
-
-#[test]
-fn are_none_of_accepted_texts(rt: HostRuntime) -> Result<(), Fail> {
-    for text in &ACCEPTED {
-        assert_eq!(rt; Selector::locate_error(rt.alloc(), text)?, None, "{text}");
-    }
-    Ok(())
-}
-
 #[test]
 fn count_the_items_of_a_long_list(rt: HostRuntime) -> Result<(), Fail> {
     let mut text = String::new(rt.alloc());

@@ -1,9 +1,7 @@
 //! Scripts that show reasons, worked by hand: a wrong definition, with its code, fails.
 
-use crate::runs::{Row, expect_rows, expect_run, push_line};
+use crate::runs::{Row, expect_rows};
 use lol_script::Status;
-use std::alloc::{AllocError, Global};
-use std::process::Abort;
 
 /// Where the line may stand, and what each field is.
 const FIELDS: [Row; 8] = [
@@ -89,35 +87,4 @@ fn shows_fields(rt: HostRuntime) {
 #[test]
 fn shows_elements(rt: HostRuntime) {
     expect_rows(&rt, rt.alloc(), &ELEMENTS);
-}
-
-/// The lines of a text that don't begin so.
-fn without(alloc: Global, text: &str, dropped: &str) -> Result<String, AllocError> {
-    let mut kept = String::new(alloc);
-    for line in text.split('\n') {
-        if !line.starts_with(dropped) {
-            push_line(&mut kept, line)?;
-        }
-    }
-    Ok(kept)
-}
-
-/// Expects a script without the line `explain` to write its output without the lines of reasons.
-fn expect_other_lines(rt: &impl Abort, alloc: Global, row: &Row) {
-    let (script, output, status) = *row;
-    let plain = without(alloc, script, "explain").expect(rt, "memory");
-    let lines = without(alloc, output.trim_end(), "why").expect(rt, "memory");
-    expect_run(rt, alloc, plain.as_bytes(), status, lines.as_bytes());
-}
-
-fn expect_all_other_lines(rt: &impl Abort, alloc: Global, rows: &[Row]) {
-    for row in rows {
-        expect_other_lines(rt, alloc, row);
-    }
-}
-
-/// Without `explain` a script has the other lines.
-#[test]
-fn changes_no_other_line(rt: HostRuntime) {
-    expect_all_other_lines(&rt, rt.alloc(), &ELEMENTS);
 }

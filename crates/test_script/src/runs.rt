@@ -1,7 +1,7 @@
 //! Runs of scripts: what the rows beside this file are told with.
 
 use lol_script::{Counted, RunFault, Status, run};
-use std::alloc::{AllocError, Global};
+use std::alloc::Global;
 use std::process::Abort;
 
 /// How the run of a script ended, and what it wrote.
@@ -33,6 +33,17 @@ pub(crate) fn expect_run(
     let (outcome, is_output) = run_against(alloc, script, output);
     assert!(rt; outcome == Ok(status), "{outcome:?}");
     assert!(rt; is_output);
+}
+
+/// Runs a good script.
+pub(crate) fn expect_good(rt: &impl Abort, alloc: Global, script: &str, output: &str) {
+    expect_run(
+        rt,
+        alloc,
+        script.as_bytes(),
+        Status::Good,
+        output.as_bytes(),
+    );
 }
 
 /// A script, its output, and how its run ends.
@@ -68,12 +79,6 @@ pub(crate) fn lines(rt: &impl Abort, alloc: Global, parts: &[(&str, u32)]) -> St
         push_often(rt, &mut text, line, *count);
     }
     text
-}
-
-/// Puts a line last, with its end.
-pub(crate) fn push_line(text: &mut String, line: &str) -> Result<(), AllocError> {
-    text.push_str(line)?;
-    text.push_str("\n")
 }
 
 fn push_often(rt: &impl Abort, text: &mut String, line: &str, count: u32) {

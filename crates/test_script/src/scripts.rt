@@ -76,14 +76,6 @@ impl Eprint for Told {
     }
 }
 
-#[test]
-fn a_bad_line_ends_with_2(rt: HostRuntime) {
-    let script = b"select\t0\tp\nstart\thtml\tp\nstart\tp\n";
-    let (outcome, is_output) = run_against(rt.alloc(), script, b"bad line 3: form\n");
-    assert!(rt; is_output);
-    assert!(rt; exit_status(&rt, outcome) == 2);
-}
-
 /// Whether an outcome ends with a status, and tells a text.
 fn ends(alloc: Global, outcome: Result<Status, RunFault>, status: u8, text: &str) -> bool {
     let told = Told {

@@ -1,10 +1,7 @@
 //! Scripts whose machine has rows, with tries counted by hand: a wrong definition of keys, with its code, fails.
 
-use crate::runs::{Row, expect_rows, expect_run, parted, push_line, status_of};
-use crate::worked::ANSWERED;
+use crate::runs::{Row, expect_rows};
 use lol_script::Status;
-use std::alloc::{AllocError, Global};
-use std::process::Abort;
 
 /// Where the line may stand, and what is tried with it.
 const TRIED: [Row; 16] = [
@@ -76,46 +73,4 @@ const TRIED: [Row; 16] = [
 #[test]
 fn spares_what_a_tag_rules_out(rt: HostRuntime) {
     expect_rows(&rt, rt.alloc(), &TRIED);
-}
-
-/// A line without the field of tries.
-fn shown(line: &str) -> &str {
-    match line.split_once("\ttries ") {
-        Some((shown, _)) => shown,
-        None => line,
-    }
-}
-
-/// A script without the line `tries`, or an output without the field, after these lines.
-fn without_tries(alloc: Global, before: &str, text: &str) -> Result<String, AllocError> {
-    let mut kept = String::from_str(alloc, before)?;
-    for line in text.split('\n') {
-        if !line.is_empty() && line != "tries" {
-            push_line(&mut kept, shown(line))?;
-        }
-    }
-    Ok(kept)
-}
-
-/// Expects a script with `rows` to write what it writes without, but for its tries.
-fn expect_other_fields(rt: &impl Abort, alloc: Global, script: &str, output: &str) {
-    let plain = without_tries(alloc, "rows\t0\n", script).expect(rt, "memory");
-    let lines = without_tries(alloc, "", output).expect(rt, "memory");
-    let status = status_of(output);
-    expect_run(rt, alloc, plain.as_bytes(), status, lines.as_bytes());
-}
-
-fn expect_all_other_fields(rt: &impl Abort, alloc: Global, text: &str) {
-    for row in text.split('\x1e') {
-        let (script, output) = parted(row);
-        if status_of(output) != Status::BadLine {
-            expect_other_fields(rt, alloc, script, output);
-        }
-    }
-}
-
-/// With `rows` a good script writes what it writes without, but for its tries.
-#[test]
-fn changes_no_other_field(rt: HostRuntime) {
-    expect_all_other_fields(&rt, rt.alloc(), ANSWERED);
 }

@@ -1,6 +1,6 @@
 //! Scripts that were worked by hand from docs/SCRIPT.md: a wrong definition, with its code, fails.
 
-/// 39 scripts, as `expect_texts` takes them.
+/// 36 scripts, as `expect_texts` takes them.
 pub(super) const ANSWERED: &str = "\
     tries\nselect\t0\tdiv p\nselect\t1\tdiv > p\nselect\t2\t.lead p, p.lead\nselect\t3\t:not(p, .lead) > p:first-child\nstart\thtml\tdiv\nstart\thtml\tsection\tclass=wide lead\nstart\thtml\tp\nend\tp\nstart\thtml\tp\tclass=lead\nend\tdiv\nstart\thtml\tp\tclass=lead\n\x1f\
     start\t-\tasked\ttries 4 2\nstart\t-\tasked\ttries 7 2\nstart\t0,2\tasked\ttries 6 2\nend\t2\nstart\t0,2\tasked\ttries 6 2\nend\t0,1,4\nstart\t2\tasked\ttries 4 2\n\x1e\
@@ -18,16 +18,10 @@ pub(super) const ANSWERED: &str = "\
     end\t-\n\x1e\
     select\t0\t:is(h1, h2) > a\nstart\thtml\th1\nstart\thtml\ta\nend\th1\nstart\thtml\tp\nstart\thtml\ta\n\x1f\
     start\t-\nstart\t0\nend\t0,1\nstart\t-\nstart\t-\n\x1e\
-    select\t0\t:not(:not(a, b))\nstart\thtml\ta\nstart\thtml\tb\nstart\thtml\tc\n\x1f\
-    start\t0\nstart\t0\nstart\t-\n\x1e\
-    select\t0\t:not(*)\nselect\t1\t:not(|a)\nstart\thtml\ta\n\x1f\
-    start\t1\n\x1e\
     select\t0\t:not(:is(a, b))\nstart\thtml\ta\nstart\thtml\tc\n\x1f\
     start\t-\nstart\t0\n\x1e\
     select\t0\t:not(a, b)\nstart\thtml\ta\nstart\thtml\tb\nstart\thtml\tc\n\x1f\
     start\t-\nstart\t-\nstart\t0\n\x1e\
-    select\t0\tdiv p\nselect\t1\tdiv > p\nstart\thtml\tdiv\nstart\thtml\tsection\nstart\thtml\tp\nend\tdiv\n\x1f\
-    start\t-\nstart\t-\nstart\t0\nend\t0,1,2\n\x1e\
     tries\nselect\t0\tdiv p\nselect\t1\tdiv > p\nstart\thtml\tdiv\nstart\thtml\tsection\nstart\thtml\tp\nend\tdiv\n\x1f\
     start\t-\ttries 1 0\nstart\t-\ttries 3 0\nstart\t0\ttries 2 0\nend\t0,1,2\n\x1e\
     tries\nselect\t0\t.a p\nselect\t1\tp\nstart\thtml\tdiv\tclass=a\nstart\thtml\tp\n\x1f\
@@ -82,7 +76,7 @@ pub(super) const ANSWERED: &str = "\
     end\t-\n";
 
 /// A script with a bad line, and its output.
-pub(super) const BAD: [(&str, &str); 44] = [
+pub(super) const BAD: [(&str, &str); 32] = [
     ("end\tdiv\t\n", "bad line 1: form\n"),
     ("\n\n\n\n\n\n\n\n\n\n\nend\n", "bad line 12: form\n"),
     (
@@ -91,11 +85,6 @@ pub(super) const BAD: [(&str, &str); 44] = [
     ),
     ("select\t0\t\n", "bad line 1: EmptySelector\n"),
     ("start\thtml\n", "bad line 1: form\n"),
-    (
-        "start\thtml\tp\n\nselect\t0\tdiv + span",
-        "bad line 3: form\n",
-    ),
-    ("select\t0\t:where()\n", "bad line 1: EmptySelector\n"),
     ("esi\t\n", "bad line 1: form\n"),
     ("esi\r\n", "bad line 1: form\n"),
     ("tries\t\n", "bad line 1: form\n"),
@@ -115,7 +104,6 @@ pub(super) const BAD: [(&str, &str); 44] = [
     ("drop\tsvg\n", "bad line 1: form\n"),
     ("drop\n", "bad line 1: form\n"),
     ("end\n", "bad line 1: form\n"),
-    ("end\tp\t\n", "bad line 1: form\n"),
     ("START\thtml\tp\n", "bad line 1: form\n"),
     (" esi\n", "bad line 1: form\n"),
     ("end\tp\nlimit\t512\n", "bad line 2: form\n"),
@@ -124,25 +112,7 @@ pub(super) const BAD: [(&str, &str); 44] = [
     ("end\tp\nselect\t0\tp\n", "bad line 2: form\n"),
     ("end\tp\nselect\t0\tdiv +\n", "bad line 2: form\n"),
     (
-        "\nselect\t0\t:is(a > b)\n",
-        "bad line 2: UnsupportedPseudoClassOrElement\n",
-    ),
-    ("\nselect\t0\t:not()\n", "bad line 2: EmptySelector\n"),
-    ("\nselect\t0\tdiv >\n", "bad line 2: DanglingCombinator\n"),
-    (
         "\nselect\t0\tdiv ~ p\n",
         "bad line 2: UnsupportedCombinator(~)\n",
     ),
-    ("\nselect\t0\tdiv@\n", "bad line 2: UnexpectedToken\n"),
-    ("\nselect\t0\tdiv.\n", "bad line 2: UnexpectedEnd\n"),
-    (
-        "\nselect\t0\tdiv[=\"foo\"]\n",
-        "bad line 2: MissingAttributeName\n",
-    ),
-    (
-        "\nselect\t0\tdiv[foo~\"bar\"]\n",
-        "bad line 2: UnexpectedTokenInAttribute\n",
-    ),
-    ("\nselect\t0\tsvg|img\n", "bad line 2: NamespacedSelector\n"),
-    ("\nselect\t0\t.foo()\n", "bad line 2: InvalidClassName\n"),
 ];
