@@ -3,23 +3,15 @@
 //! definitions, so that a machine that refuses at will, or that the compiler gets wrong, is found.
 #![tactic(auto)]
 
-pub mod caseless_names;
+mod caseless_names;
 mod plain;
 mod plain_document;
 mod plain_element;
 mod plain_nodes;
-mod plain_tries;
-mod tag_words;
-pub mod void_names;
-pub mod worked_answers;
-pub mod worked_runs;
-pub mod worked_texts;
-
-pub use plain::{PlainAnswer, plain_answers};
-pub use tag_words::events_of;
-
 #[cfg(test)]
 mod plain_runs;
+mod plain_tries;
+mod tag_words;
 #[cfg(test)]
 mod told;
 #[cfg(test)]
@@ -30,3 +22,7 @@ mod told_runs;
 mod told_values;
 #[cfg(test)]
 mod told_void_names;
+mod void_names;
+mod worked_answers;
+mod worked_runs;
+mod worked_texts;

@@ -24,7 +24,7 @@ use std::alloc::{AllocError, Global};
 
 /// The answer to a tag.
 #[derive(Drop)]
-pub enum PlainAnswer {
+pub(crate) enum PlainAnswer {
     /// A start tag: what it is reported under, ascending by id, whether its attributes were asked for, and how many nodes were tried by
     /// their name tests and by their attribute tests.
     Started {
@@ -46,7 +46,7 @@ pub enum PlainAnswer {
 ///
 /// # Errors
 /// Where memory was refused, or a parent has more children than an `i32` counts.
-pub fn plain_answers(
+pub(crate) fn plain_answers(
     alloc: Global,
     ast: &Ast,
     enable_esi_tags: bool,
@@ -81,7 +81,7 @@ fn answers_of(
 }
 
 /// Answers one event.
-pub(crate) fn answer<'e>(
+fn answer<'e>(
     alloc: Global,
     nodes: &[PlainNode<'_>],
     enable_esi_tags: bool,

@@ -44,12 +44,6 @@ struct Drawn {
 }
 
 impl Drawn {
-    fn new(seed: u64) -> Self {
-        Drawn {
-            random: Random::new(seed),
-        }
-    }
-
     fn below(&mut self, bound: u32) -> u32 {
         self.random.below(bound)
     }
@@ -145,11 +139,6 @@ fn agrees(report: &TagReport, told: &PlainAnswer) -> bool {
     }
 }
 
-/// Whether the machine is to know the names of ESI in the document of a seed.
-fn has_esi(seed: u64) -> bool {
-    seed % 2 == 1
-}
-
 /// How many reports, from the first on, say what the plain answers say.
 fn count_agreeing(reports: &[TagReport], told: &[PlainAnswer]) -> usize {
     let mut count = 0usize;
@@ -178,8 +167,9 @@ fn compare_events(
 ) -> Result<(), Fail>
     requires { All HasRangesInside events.now }
 {
-    let told = plain_answers(alloc, &ast, has_esi(seed), events)?;
-    let reports = reports_of_events(alloc, ast, has_esi(seed), events)?;
+    let enable_esi_tags = seed % 2 == 1;
+    let told = plain_answers(alloc, &ast, enable_esi_tags, events)?;
+    let reports = reports_of_events(alloc, ast, enable_esi_tags, events)?;
     expect_agreement(rt, seed, &reports, &told);
     Ok(())
 }
@@ -197,7 +187,9 @@ fn compare_tags(
 }
 
 fn compare(rt: &impl Abort, alloc: Global, seed: u64) -> Result<(), Fail> {
-    let mut drawn = Drawn::new(seed);
+    let mut drawn = Drawn {
+        random: Random::new(seed),
+    };
     let ast = drawn.selectors(alloc)?;
     let tags = drawn.tags(alloc)?;
     compare_tags(rt, alloc, seed, ast, &tags)

@@ -24,7 +24,7 @@ fn event<'e, 't: 'e>(tag: &TagWord<'t>, attributes: &'e Attributes) -> TagEvent<
 }
 
 /// The tags, with these attributes.
-pub fn events_of<'e, 't: 'e>(
+pub(crate) fn events_of<'e, 't: 'e>(
     alloc: Global,
     tags: &[TagWord<'t>],
     attributes: &'e [Attributes],

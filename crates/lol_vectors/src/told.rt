@@ -95,6 +95,24 @@ fn stop_of_events(
     match_each_event(alloc, ast, 64, false, events, limiter, &mut handler).err()
 }
 
+/// A text for each comparison of an attribute with an operand.
+pub(crate) fn texts_of(
+    alloc: Global,
+    name: &str,
+    comparisons: &str,
+    operand: &str,
+) -> Result<Vec<String>, AllocError> {
+    let mut texts = Vec::new(alloc);
+    for compared in comparisons.split(',') {
+        texts.push(text_of(alloc, name, compared, operand)?)?;
+    }
+    Ok(texts)
+}
+
+fn text_of(alloc: Global, name: &str, compared: &str, operand: &str) -> Result<String, AllocError> {
+    format!(in alloc; "[{name}{compared}{operand}]")
+}
+
 /// These texts under the ids from 0.
 pub(crate) fn numbered<'t>(
     alloc: Global,
@@ -126,6 +144,11 @@ fn are_reported(infos: &[MatchInfo], ids: &[usize], content: bool) -> bool {
         }
     }
     true
+}
+
+/// Whether the reports tell exactly these numbers, all with content.
+pub(crate) fn are_told(told: &[TagReport], wanted: &[&[usize]]) -> bool {
+    told.len() == wanted.len() && count_told(told, wanted) == wanted.len()
 }
 
 /// How many reports tell these numbers, from the first on, all with content.

@@ -1,6 +1,6 @@
 //! Attributes whose values compare without case in HTML, told to the machine: a list that lacks one, in code and definition alike, fails.
 
-use crate::told::{numbered, reports, tells};
+use crate::told::{are_told, numbered, reports, texts_of};
 use lol_vm::TagReport;
 use std::alloc::{AllocError, Global};
 use std::process::Abort;
@@ -21,20 +21,7 @@ const EXACT: &str =
     rels re tex background cite span";
 
 /// What the value `text` is compared with: `TEXT` without a flag, with the flag `s` and with the flag `i`, and `text`.
-const COMPARED: &str = "TEXT,TEXT s,TEXT i,text";
-
-fn text_of(alloc: Global, name: &str, compared: &str) -> Result<String, AllocError> {
-    format!(in alloc; "[{name}={compared}]")
-}
-
-/// A text for each comparison.
-fn texts_of(alloc: Global, name: &str) -> Result<Vec<String>, AllocError> {
-    let mut texts = Vec::new(alloc);
-    for compared in COMPARED.split(',') {
-        texts.push(text_of(alloc, name, compared)?)?;
-    }
-    Ok(texts)
-}
+const COMPARISONS: &str = "=TEXT,=TEXT s,=TEXT i,=text";
 
 fn tags_of(alloc: Global, name: &str) -> Result<String, AllocError> {
     format!(in alloc; "a@{name}=text svg:a@{name}=text math:a@{name}=text")
@@ -42,22 +29,10 @@ fn tags_of(alloc: Global, name: &str) -> Result<String, AllocError> {
 
 /// What the machine answers to an element of HTML, of SVG and of MathML whose attribute of this name has the value `text`.
 fn reports_of_name(alloc: Global, name: &str) -> Result<Vec<TagReport>, Fail> {
-    let texts = texts_of(alloc, name)?;
+    let texts = texts_of(alloc, name, COMPARISONS, "")?;
     let texts = numbered(alloc, &texts)?;
     let tags = tags_of(alloc, name)?;
     reports(alloc, &texts, false, &tags)
-}
-
-/// Whether these are reports of three elements, the first under ids of its own.
-fn are_told(told: &[TagReport], in_html: &[usize], elsewhere: &[usize]) -> bool {
-    match told {
-        [html, svg, mathml] => {
-            tells(html, in_html, true)
-                && tells(svg, elsewhere, true)
-                && tells(mathml, elsewhere, true)
-        }
-        _ => false,
-    }
 }
 
 /// Expects under which of the comparisons elements of HTML, and of SVG and MathML, are reported that have these attributes.
@@ -70,7 +45,7 @@ fn expect_ids(
 ) -> Result<(), Fail> {
     for name in names.split_whitespace() {
         let told = reports_of_name(alloc, name)?;
-        assert!(rt; are_told(&told, in_html, elsewhere), "{name}");
+        assert!(rt; are_told(&told, &[in_html, elsewhere, elsewhere]), "{name}");
     }
     Ok(())
 }

@@ -1,8 +1,7 @@
 //! Values of attributes, told to the machine: rows of Selectors 4, so that code and definition can't be changed alike.
 
-use crate::told::{numbered, reports_of_tags, tells};
-use lol_vm::TagReport;
-use std::alloc::{AllocError, Global};
+use crate::told::{are_told, numbered, reports_of_tags, texts_of};
+use std::alloc::Global;
 use std::process::Abort;
 use std::test::Fail;
 use test_kit::TagWord;
@@ -32,14 +31,6 @@ const WORDS: [(&str, &[usize]); 9] = [
     ("a\u{a0}b", &[]),
 ];
 
-/// Whether these are the reports of one tag, under these ids.
-fn is_one(told: &[TagReport], wanted: &[usize]) -> bool {
-    match told {
-        [report] => tells(report, wanted, true),
-        _ => false,
-    }
-}
-
 /// Expects the ids under which an `a` with an attribute is reported.
 fn expect_ids(
     rt: &impl Abort,
@@ -54,37 +45,12 @@ fn expect_ids(
         ..TagWord::of("a")
     };
     let told = reports_of_tags(alloc, texts, false, &[tag])?;
-    assert!(rt; is_one(&told, wanted), "{value:?}");
+    assert!(rt; are_told(&told, &[wanted]), "{value:?}");
     Ok(())
 }
 
 /// The operators of `OPERATORS`.
-const SIGNS: &str = "= ~= |= ^= $= *=";
-
-fn text_of(alloc: Global, sign: &str, operand: &str) -> Result<String, AllocError> {
-    format!(in alloc; "[t{sign}{operand}]")
-}
-
-/// A text for each operator.
-fn texts_of(alloc: Global, operand: &str) -> Result<Vec<String>, AllocError> {
-    let mut texts = Vec::new(alloc);
-    for sign in SIGNS.split(' ') {
-        texts.push(text_of(alloc, sign, operand)?)?;
-    }
-    Ok(texts)
-}
-
-fn check_operand(
-    rt: &impl Abort,
-    alloc: Global,
-    value: &str,
-    operand: &str,
-    wanted: &[usize],
-) -> Result<(), Fail> {
-    let texts = texts_of(alloc, operand)?;
-    let texts = numbered(alloc, &texts)?;
-    expect_ids(rt, alloc, &texts, "t", value, wanted)
-}
+const SIGNS: &str = "=,~=,|=,^=,$=,*=";
 
 fn check_operands(
     rt: &impl Abort,
@@ -92,7 +58,9 @@ fn check_operands(
     rows: &[(&str, &str, &[usize])],
 ) -> Result<(), Fail> {
     for (value, operand, wanted) in rows {
-        check_operand(rt, alloc, value, operand, wanted)?;
+        let texts = texts_of(alloc, "t", SIGNS, operand)?;
+        let texts = numbered(alloc, &texts)?;
+        expect_ids(rt, alloc, &texts, "t", value, wanted)?;
     }
     Ok(())
 }

@@ -7,7 +7,7 @@ ghost use Rattle.lol_vectors.specs.VoidNames.{without_any_content, near_misses, 
 
 /// The 17 names, in any case, open nothing in HTML, whether ESI is on, and their end tags close nothing. In SVG and MathML they open, unless
 /// their tags close themselves.
-pub fn void_names()
+fn void_names()
     ensures count { length without_any_content ≡ 51 }
     ensures html { AllAnswer false (start_in Html) without_any_content (opens_nothing false) }
     ensures html_with_esi { AllAnswer true (start_in Html) without_any_content (opens_nothing false) }
@@ -18,14 +18,14 @@ pub fn void_names()
 {}
 
 /// Other names open, also where their tags close themselves.
-pub fn near_misses_open()
+fn near_misses_open()
     ensures html { AllAnswer false (start_in Html) near_misses (opens false) }
     ensures html_with_esi { AllAnswer true (start_in Html) near_misses (opens false) }
     ensures self_closing { AllAnswer false (self_closing_in Html) near_misses (opens false) }
 {}
 
 /// The two names of ESI open nothing in HTML where ESI is on and they are spelled exactly so; else they open.
-pub fn esi_names()
+fn esi_names()
     ensures on { AllAnswer true (start_in Html) names_of_esi (opens_nothing false) }
     ensures off { AllAnswer false (start_in Html) names_of_esi (opens false) }
     ensures on_in_svg { AllAnswer true (start_in Svg) names_of_esi (opens true) }

@@ -7,7 +7,7 @@ ghost use Rattle.lol_machine.specs.Refusals.{Limit};
 ghost use Rattle.lol_vectors.specs.WorkedAnswers.{Holds, refused_at, descendant_and_child, class_above, nested_divs, not_a_compound, not_neither, neither_class_nor_name, not_an_empty_substring, nothing_and_anything, some_compound, none_of_some, child_of_some, negative_step, of_mathml, AreValues, all_stand, has_id, has_class, element_with_attributes, written, unwritten, second_child, second_span, caseless_in_html, empty_operand, esi_names, dropped_tag, self_closing_tag, links};
 
 /// Answers to some tags.
-pub fn answers_to_tags()
+fn answers_to_tags()
     ensures descendant_and_child { Holds descendant_and_child }
     ensures class_above { Holds class_above }
     ensures nested_divs { Holds nested_divs }
@@ -22,7 +22,7 @@ pub fn answers_to_tags()
 {}
 
 /// Answers where compounds are negated or chosen among.
-pub fn answers_to_functions()
+fn answers_to_functions()
     ensures not_a_compound { Holds not_a_compound }
     ensures not_neither { Holds not_neither }
     ensures neither_class_nor_name { Holds neither_class_nor_name }
@@ -36,12 +36,12 @@ pub fn answers_to_functions()
 {}
 
 /// The value by names of each kind of test.
-pub fn values_by_names()
+fn values_by_names()
     ensures { AreValues }
 {}
 
 /// Each operator on a value, with an operand and an empty one: `=`, `~=`, `|=`, `^=`, `*=`, `$=`.
-pub fn operators()
+fn operators()
     ensures whole { all_stand (codes "ab") (codes "ab") ≡ (true ∷ true ∷ true ∷ true ∷ true ∷ true ∷ []) }
     ensures word { all_stand (codes "b") (codes "a b") ≡ (false ∷ true ∷ false ∷ false ∷ true ∷ true ∷ []) }
     ensures dash { all_stand (codes "a") (codes "a-b") ≡ (false ∷ false ∷ true ∷ true ∷ true ∷ false ∷ []) }
@@ -52,7 +52,7 @@ pub fn operators()
 {}
 
 /// Ids, classes and their white space, and names of attributes.
-pub fn ids_and_classes()
+fn ids_and_classes()
     ensures first_of_two { has_id (codes "A")
         (written (codes "ID") (codes "A") ∷ written (codes "id") (codes "b") ∷ []) ≡ true }
     ensures second_of_two { has_id (codes "b")
@@ -70,7 +70,7 @@ pub fn ids_and_classes()
 {}
 
 /// Slots for items of 64, 512 and 7 bytes, and the tag at which a limit is passed.
-pub fn charges_and_limits()
+fn charges_and_limits()
     ensures slots { (slots 64 0 ∷ slots 64 1 ∷ slots 64 9 ∷ slots 512 3 ∷ slots 7 18 ∷ slots 7 19 ∷ [])
         ≡ (0 ∷ 8 ∷ 16 ∷ 8 ∷ 18 ∷ 36 ∷ []) }
     ensures too_little { refused_at 511 1 ≡ Some (0, Limit) }

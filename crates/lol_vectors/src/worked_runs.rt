@@ -11,7 +11,7 @@ ghost use Rattle.lol_vectors.specs.Runs.{told};
 ghost use Rattle.lol_vectors.specs.WorkedRuns.{two_paths, two_items, ancestors_up, steps, ids_ascend, ends, dropped_siblings, asking_texts, asking_tags, asked, by_type, progressions, refused_in_use, refused_again, AtGreatest, AboveGreatest};
 
 /// Under which ids tags are reported, and what end tags close.
-pub fn answers_to_texts()
+fn answers_to_texts()
     ensures two_paths { two_paths ≡ [] ∷ [] ∷ (3 ∷ 7 ∷ []) ∷ (3 ∷ 7 ∷ []) ∷ [] }
     ensures two_items { two_items ≡ [] ∷ (5 ∷ []) ∷ (5 ∷ []) ∷ [] ∷ [] }
     ensures ancestors_up { ancestors_up ≡ [] ∷ (0 ∷ 1 ∷ []) ∷ (1 ∷ []) ∷ [] ∷ [] ∷ (0 ∷ []) ∷ (5 ∷ [])
@@ -30,7 +30,7 @@ pub fn answers_to_texts()
 {}
 
 /// The slots of small items; and a limit that is met exactly, and one that is a byte short, where 100 bytes were in use before.
-pub fn limits_at_their_edges()
+fn limits_at_their_edges()
     ensures slots { (slots 1 1 ∷ slots 1 129 ∷ slots 7 1 ∷ slots 14 1 ∷ slots 16 9 ∷ [])
         ≡ (128 ∷ 256 ∷ 18 ∷ 9 ∷ 16 ∷ []) }
     ensures short { refused_in_use 611 1 ≡ Some (0, Limit) }
@@ -42,7 +42,7 @@ pub fn limits_at_their_edges()
 {}
 
 /// Counters of children at their greatest number: `i32::MAX`.
-pub fn counters_at_their_greatest()
+fn counters_at_their_greatest()
     ensures greatest { (full_count ∷ greatest_count ∷ []) ≡ (2147483647 ∷ 2147483647 ∷ []) }
     ensures below { one_more 2147483646 ≡ 2147483647 }
     ensures full { one_more 2147483647 ≡ 2147483647 }
@@ -52,7 +52,7 @@ pub fn counters_at_their_greatest()
 
 /// What a refused run may tell: the limit and a full counter with the first tag that is to be refused so, and memory with none after it, nor
 /// with one whose counter is full.
-pub fn causes_of_refused_runs()
+fn causes_of_refused_runs()
     ensures limit { StopsFor MemoryLimitExceeded 3 (Some (3, Limit)) }
     ensures counter { StopsFor CounterFull 3 (Some (3, Counter)) }
     ensures other_cause { StopsFor CounterFull 3 (Some (3, Limit)) → ⊥ }

@@ -8,7 +8,7 @@ ghost use Rattle.lol_css.specs.declared.error.SelectorError.TheVariants.{Unsuppo
 ghost use Rattle.lol_vectors.specs.WorkedTexts.{refused_late, refused_at_once, after_a_sibling, all_refused, sibling, node_count, told_of, parted_by, with_operators, reads_class};
 
 /// Texts are equal with or without the case of ASCII letters, and of no other sign.
-pub fn texts_are_the_same()
+fn texts_are_the_same()
     ensures exact { SameText CaseSensitive (codes "aZ") (codes "aZ") }
     ensures case_differs { SameText CaseSensitive (codes "aZ") (codes "Az") → ⊥ }
     ensures letters { SameText AsciiCaseInsensitive (codes "azAZ-1") (codes "AZaz-1") }
@@ -18,20 +18,20 @@ pub fn texts_are_the_same()
 {}
 
 /// Indices on a progression: 5 is 3 * 2 - 1, 1 is -2 * 3 + 7, and 4 is 0 * 0 + 4.
-pub fn indices_lie_on_progressions()
+fn indices_lie_on_progressions()
     ensures rising { Has (record { step = pos 3; offset = negsuc 0 }) (pos 5) }
     ensures falling { Has (record { step = negsuc 1; offset = pos 7 }) (pos 1) }
     ensures alone { Has (record { step = pos 0; offset = pos 4 }) (pos 4) }
 {}
 
 /// What is refused where it is read is named before what is refused once the whole list was read.
-pub fn causes_have_their_order()
+fn causes_have_their_order()
     ensures late { after_a_sibling refused_late ≡ all_refused sibling refused_late }
     ensures at_once { after_a_sibling refused_at_once ≡ all_refused UnsupportedPseudoClassOrElement refused_at_once }
 {}
 
 /// How many nodes texts have: each beginning of their paths once, and tests in another order, or with another flag, are another node.
-pub fn nodes_are_counted()
+fn nodes_are_counted()
     ensures shared { node_count (codes "div p" ∷ codes "div > p" ∷ codes "div" ∷ codes "p" ∷ []) ≡ 4 }
     ensures order { node_count (codes ".a.b" ∷ codes ".b.a" ∷ codes ".a.b" ∷ []) ≡ 2 }
     ensures flags { node_count (codes "[a=b]" ∷ codes "[a=b s]" ∷ codes "[a=b i]" ∷ codes "[a='b']" ∷ []) ≡ 3 }
@@ -46,13 +46,13 @@ pub fn nodes_are_counted()
 {}
 
 /// ASCII white space parts words: tab, LF, form feed, CR and space; a vertical tab, NUL and a hyphen don't.
-pub fn white_space_parts_words()
+fn white_space_parts_words()
     ensures white { map parted_by (9 ∷ 10 ∷ 12 ∷ 13 ∷ 32 ∷ []) ≡ replicate 5 ((0 ∷ 1 ∷ []) ∷ []) }
     ensures black { map parted_by (11 ∷ 0 ∷ 45 ∷ 160 ∷ []) ≡ replicate 4 ([] ∷ []) }
 {}
 
 /// Operators: which of `=`, `~=`, `|=`, `^=`, `$=` and `*=` hold of a value.
-pub fn operators_hold()
+fn operators_hold()
     ensures whole { told_of (codes "t") (codes "en") (with_operators (codes "en")) ≡ (0 ∷ 1 ∷ 2 ∷ 3 ∷ 4 ∷ 5 ∷ []) ∷ [] }
     ensures dash { told_of (codes "t") (codes "en-us") (with_operators (codes "en")) ≡ (2 ∷ 3 ∷ 5 ∷ []) ∷ [] }
     ensures words { told_of (codes "t") (codes "de en fr") (with_operators (codes "en")) ≡ (1 ∷ 5 ∷ []) ∷ [] }
@@ -64,7 +64,7 @@ pub fn operators_hold()
 {}
 
 /// Code points that begin a name, and signs that don't.
-pub fn names_are_read()
+fn names_are_read()
     ensures begins { map reads_class (codes "A" ∷ codes "z" ∷ codes "_" ∷ codes "--" ∷ codes "-"
         ∷ codes "\\" ∷ (194 ∷ 128 ∷ []) ∷ (195 ∷ 164 ∷ []) ∷ []) ≡ replicate 8 true }
     ensures other { map reads_class (codes "1" ∷ codes "-1" ∷ codes "@" ∷ codes "["

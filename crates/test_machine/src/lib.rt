@@ -15,6 +15,8 @@ mod passed_on;
 #[cfg(test)]
 mod readme;
 #[cfg(test)]
+mod sanitiser;
+#[cfg(test)]
 mod uses;
 #[cfg(test)]
 mod witnesses;
