@@ -1,47 +1,25 @@
 //! A sanitiser: what stays of a page without the elements that a matcher reports.
 
-ghost use Rattle.std.specs.Prelude.{◌≤◌, length, IfOk};
+ghost use Rattle.std.specs.Prelude.{◌≡◌, ◌≤◌, length, IfOk, IsTrue, None};
 
-use lol_matcher::MatcherBuilder;
+use lol_matcher::{MatcherBuilder, OpenElement};
 use lol_page_matcher::{Page, PageError};
 use std::alloc::Global;
 
 /// A tag of more bytes is refused.
 const MAX_TAG_BYTES: u64 = 65_536;
 
-/// What becomes of an element.
-#[derive(Clone, Copy, PartialEq, Eq)]
-enum Fate {
-    Kept,
-    Dropped,
-}
-
 /// What stays of a page, as far as it was read.
 #[derive(Drop)]
 struct Sanitiser {
-    page: Page<Fate>,
-    /// How many open elements are dropped.
-    dropped: usize,
+    page: Page,
+    /// How many elements are open.
+    open: usize,
+    /// How many of them are around the outermost one that is dropped, if one is.
+    around: Option<usize>,
     /// What was read after the last tag.
-    pending: Vec<u8>,
+    text: Vec<u8>,
     kept: Vec<u8>,
-}
-
-/// What an end tag closes.
-#[derive(Default, Drop)]
-struct Closed {
-    outermost: Option<Fate>,
-    dropped: usize,
-}
-
-impl Closed {
-    /// Hears of the next element that is closed, from the outermost one inwards.
-    fn keep(&mut self, fate: Option<Fate>) {
-        self.outermost = self.outermost.or(fate);
-        if let Some(Fate::Dropped) = fate {
-            self.dropped = self.dropped.saturating_add(1);
-        }
-    }
 }
 
 /// What stays of a page that comes in chunks: all but the elements that are reported, with what is inside of them, end tags that close nothing,
@@ -54,13 +32,14 @@ pub fn sanitised(
     builder: MatcherBuilder,
     chunks: &[&[u8]],
 ) -> Result<Vec<u8>, PageError> {
-    let Ok(matcher) = builder.build_with_values::<Fate>() else {
+    let Ok(matcher) = builder.build() else {
         return Err(PageError::Memory);
     };
     let mut sanitiser = Sanitiser {
         page: Page::new(alloc, matcher, true, MAX_TAG_BYTES),
-        dropped: 0,
-        pending: Vec::new(alloc),
+        open: 0,
+        around: None,
+        text: Vec::new(alloc),
         kept: Vec::new(alloc),
     };
     for chunk in chunks {
@@ -83,74 +62,82 @@ impl Sanitiser {
     fn step(&mut self, rest: &[u8]) -> Result<usize, PageError>
         ensures { IfOk result (λ taken. taken ≤ length rest.now) }
     {
-        let mut closed = Closed::default();
         let read = self
             .page
-            .next_tag(rest, &mut |element| closed.keep(element.value))?;
-        let Ok(()) = self.pending.extend_from_slice(&rest[..read.taken]) else {
+            .next_tag(rest, &mut |_element: OpenElement<()>| {})?;
+        let Ok(()) = self.text.extend_from_slice(&rest[..read.taken]) else {
             return Err(PageError::Memory);
         };
         if let Some(placed) = read.tag {
-            let keeps_text = self.dropped == 0;
-            let fate = if placed.tag.is_end {
-                self.end(&closed)
+            let keeps_text = self.around.is_none();
+            let keeps_tag = if placed.tag.is_end {
+                self.keeps_end()
             } else {
-                self.start()
+                self.keeps_start()
             };
-            self.settle(self.page.text().len(), keeps_text, fate == Fate::Kept)?;
+            self.settle(self.page.text().len(), keeps_text, keeps_tag)?;
         }
         Ok(read.taken)
     }
 
-    /// Hears of a start tag.
-    fn start(&mut self) -> Fate {
-        let is_dropped = self.dropped > 0 || !self.page.matches().is_empty();
-        let fate = if is_dropped {
-            Fate::Dropped
-        } else {
-            Fate::Kept
-        };
-        if self.page.has_opened() {
-            let _ = self.page.replace_value(Some(fate));
-            self.dropped = self.dropped.saturating_add(is_dropped as usize);
+    /// Whether the start tag that was read last stays: it isn't reported, nor inside an element that is.
+    fn keeps_start(&mut self) -> bool
+        ensures reported { IsTrue result → length self.old.page.matcher.matched ≡ 0 }
+        ensures inside { IsTrue result → self.new.around ≡ None }
+    {
+        let (depth, opened) = (self.page.depth(), self.page.has_opened());
+        self.open = depth.saturating_add(opened as usize);
+        if self.page.matches().is_empty() {
+            return self.around.is_none();
         }
-        fate
+        if opened && self.around.is_none() {
+            self.around = Some(depth);
+        }
+        false
     }
 
-    /// Hears of an end tag, which stays with the outermost element that it closes.
-    fn end(&mut self, closed: &Closed) -> Fate {
-        self.dropped = self.dropped.saturating_sub(closed.dropped);
-        closed.outermost.unwrap_or(Fate::Dropped)
+    /// Whether the end tag that was read last stays: it closes an element that does.
+    fn keeps_end(&mut self) -> bool
+        ensures { IsTrue result → self.new.around ≡ None }
+    {
+        let open = self.page.depth();
+        let closes = open < self.open;
+        self.open = open;
+        match self.around {
+            Some(around) if around < open => false,
+            around => {
+                self.around = None;
+                closes && around != Some(open)
+            }
+        }
     }
 
-    /// Keeps of what was read the text, and so many bytes after it, or leaves them out.
+    /// Keeps what was read, the text and so many bytes after it, or leaves it out.
     fn settle(&mut self, len: usize, keeps_text: bool, keeps_rest: bool) -> Result<(), PageError> {
-        let end = self.pending.len().saturating_sub(len);
-        let (text, rest) = self.pending.split_at(end);
-        let mut kept = Ok(());
-        if keeps_text {
-            kept = self.kept.extend_from_slice(text);
+        let end = self.text.len().saturating_sub(len);
+        let (text, rest) = self.text.split_at(end);
+        let text = if keeps_text { text } else { b"" };
+        let rest = if keeps_rest { rest } else { b"" };
+        if self.kept.extend_from_slice(text).is_err()
+            || self.kept.extend_from_slice(rest).is_err()
+        {
+            return Err(PageError::Memory);
         }
-        if keeps_rest && kept.is_ok() {
-            kept = self.kept.extend_from_slice(rest);
-        }
-        self.pending.clear();
-        match kept {
-            Ok(()) => Ok(()),
-            Err(_) => Err(PageError::Memory),
-        }
+        self.text.clear();
+        Ok(())
     }
 
     /// Keeps the text after the last tag, up to a `<`.
     fn finish(mut self) -> Result<Vec<u8>, PageError> {
-        let len = self.pending.len();
-        let end = self.pending.iter().position(|byte| *byte == b'<');
+        let len = self.text.len();
+        let end = self.text.iter().position(|byte| *byte == b'<');
         let rest = len.saturating_sub(end.unwrap_or(len));
-        self.settle(rest, self.dropped == 0, false)?;
+        self.settle(rest, self.around.is_none(), false)?;
         let Sanitiser {
             page: _,
-            dropped: _,
-            pending: _,
+            open: _,
+            around: _,
+            text: _,
             kept,
         } = self;
         Ok(kept)
