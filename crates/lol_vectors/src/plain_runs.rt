@@ -11,7 +11,7 @@ use lol_vm::{Ast, Namespace, Selector, SelectorError, TagEvent, TagReport};
 use std::alloc::{AllocError, Global};
 use std::process::Abort;
 use std::test::Fail;
-use test_kit::{Random, TagWord, attributes_of};
+use test_kit::{TagWord, attributes_of};
 
 /// How many documents there are, how many selectors are looked for in each of them, and how many tags it has.
 const DOCUMENTS: u64 = 1_000;
@@ -37,15 +37,19 @@ fn add(alloc: Global, ast: &mut Ast, text: &str, match_id: u32) -> Result<(), Se
     Ok(ast.add_selector(&selector, match_id)?)
 }
 
-/// Selectors and tags that are drawn.
+/// Selectors and tags that are drawn by a linear congruential generator (Knuth, The Art of Computer Programming, volume 2, 3.3.4).
 #[derive(Drop)]
 struct Drawn {
-    random: Random,
+    state: u64,
 }
 
 impl Drawn {
     fn below(&mut self, bound: u32) -> u32 {
-        self.random.below(bound)
+        self.state = self
+            .state
+            .wrapping_mul(6_364_136_223_846_793_005)
+            .wrapping_add(1_442_695_040_888_963_407);
+        ((self.state >> 33) as u32) % bound.max(1)
     }
 
     /// One of the words of a text.
@@ -187,9 +191,7 @@ fn compare_tags(
 }
 
 fn compare(rt: &impl Abort, alloc: Global, seed: u64) -> Result<(), Fail> {
-    let mut drawn = Drawn {
-        random: Random::new(seed),
-    };
+    let mut drawn = Drawn { state: seed };
     let ast = drawn.selectors(alloc)?;
     let tags = drawn.tags(alloc)?;
     compare_tags(rt, alloc, seed, ast, &tags)
