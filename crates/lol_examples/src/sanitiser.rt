@@ -4,7 +4,7 @@ ghost use Rattle.std.specs.Prelude.{◌≡◌, ◌≤◌, length, IfOk, IsTrue, 
 
 use lol_matcher::{MatcherBuilder, OpenElement};
 use lol_page_matcher::{Page, PageError};
-use std::alloc::Global;
+use std::alloc::{AllocError, Global};
 
 /// A tag of more bytes is refused.
 const MAX_TAG_BYTES: u64 = 65_536;
@@ -23,7 +23,7 @@ struct Sanitiser {
 }
 
 /// What stays of a page that comes in chunks: all but the elements that are reported, with what is inside of them, end tags that close nothing,
-/// and what stands after the last tag from a `<` on, which may be a tag that isn't whole.
+/// and what stands after the last tag from a `<` on, which may be a tag that isn't whole. What a browser reads otherwise is in docs/PAGES.md.
 ///
 /// # Errors
 /// Those of `Page::next_tag`.
@@ -75,7 +75,10 @@ impl Sanitiser {
             } else {
                 self.keeps_start()
             };
-            self.settle(self.page.text().len(), keeps_text, keeps_tag)?;
+            let len = self.page.text().len();
+            if self.settle(len, keeps_text, keeps_tag).is_err() {
+                return Err(PageError::Memory);
+            }
         }
         Ok(read.taken)
     }
@@ -113,15 +116,13 @@ impl Sanitiser {
     }
 
     /// Keeps what was read, the text and so many bytes after it, or leaves it out.
-    fn settle(&mut self, len: usize, keeps_text: bool, keeps_rest: bool) -> Result<(), PageError> {
+    fn settle(&mut self, len: usize, keeps_text: bool, keeps_rest: bool) -> Result<(), AllocError> {
         let end = self.text.len().saturating_sub(len);
-        let (text, rest) = self.text.split_at(end);
-        let text = if keeps_text { text } else { b"" };
-        let rest = if keeps_rest { rest } else { b"" };
-        if self.kept.extend_from_slice(text).is_err()
-            || self.kept.extend_from_slice(rest).is_err()
-        {
-            return Err(PageError::Memory);
+        if keeps_text {
+            self.kept.extend_from_slice(&self.text[..end])?;
+        }
+        if keeps_rest {
+            self.kept.extend_from_slice(&self.text[end..])?;
         }
         self.text.clear();
         Ok(())
@@ -129,10 +130,13 @@ impl Sanitiser {
 
     /// Keeps the text after the last tag, up to a `<`.
     fn finish(mut self) -> Result<Vec<u8>, PageError> {
+        let keeps = self.around.is_none();
         let len = self.text.len();
         let end = self.text.iter().position(|byte| *byte == b'<');
         let rest = len.saturating_sub(end.unwrap_or(len));
-        self.settle(rest, self.around.is_none(), false)?;
+        if self.settle(rest, keeps, false).is_err() {
+            return Err(PageError::Memory);
+        }
         let Sanitiser {
             page: _,
             open: _,

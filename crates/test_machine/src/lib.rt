@@ -1,7 +1,9 @@
-//! Tests of matchers, of what explains their reports and of lol_examples: an `Ok` of each call, the lines that README and the crates' pages show,
-//! and the texts of errors, which no contract says.
+//! Tests of matchers, of what explains their reports, of pages and of lol_examples: an `Ok` of each call, the lines that README and the crates'
+//! pages show, pages whose tags were counted by hand, and the texts of errors, which no contract says.
 #![tactic(auto)]
 
+#[cfg(test)]
+mod closings;
 #[cfg(test)]
 mod errors;
 #[cfg(test)]
@@ -9,7 +11,11 @@ mod explained_page;
 #[cfg(test)]
 mod links;
 #[cfg(test)]
+mod matches;
+#[cfg(test)]
 mod page;
+#[cfg(test)]
+mod pages;
 #[cfg(test)]
 mod passed_on;
 #[cfg(test)]
