@@ -35,10 +35,10 @@ ended-some p b tag e = ap (option_map (page_tag (moved p b))) e
 -- 2. Bytes that end no tag
 
 on-nothing : (p : Page) → p ≡ read_on p p.reader []
-on-nothing p = ap (λ (l : List ℕ). record { reader = p.reader; read = l; elements = p.elements }) (sym (append-nil p.read))
+on-nothing p = ap (λ (l : List ℕ). record { reader = p.reader; read = l; elements = p.elements; decoded = p.decoded }) (sym (append-nil p.read))
 
 on-more : (p : Page) (r q : TagReader) (b : ℕ) (bytes : List ℕ) → read_on (read_on p r (b ∷ [])) q bytes ≡ read_on p q (b ∷ bytes)
-on-more p r q b bytes = ap (λ (l : List ℕ). record { reader = q; read = l; elements = p.elements }) (append_assoc p.read (b ∷ []) bytes)
+on-more p r q b bytes = ap (λ (l : List ℕ). record { reader = q; read = l; elements = p.elements; decoded = p.decoded }) (append_assoc p.read (b ∷ []) bytes)
 
 pub quiet-after : (p : Page) (bytes : List ℕ) → tags_from p.reader bytes ≡ [] → page_after p bytes ≡ read_on p (after p.reader bytes) bytes
 quiet-after p [] e = on-nothing p
@@ -60,8 +60,8 @@ quiet-tags p (b ∷ bytes) e =
 
 moved-to : (p : Page) (before : List ℕ) (b : ℕ) → moved (read_on p (after p.reader before) before) b ≡ read_on p (after p.reader (before ++ b ∷ [])) (before ++ b ∷ [])
 moved-to p before b =
-    ap (λ (l : List ℕ). record { reader = step (after p.reader before) b; read = l; elements = p.elements }) (append_assoc p.read before (b ∷ []))
-    ∙ ap (λ (r : TagReader). record { reader = r; read = p.read ++ (before ++ b ∷ []); elements = p.elements }) (sym (run-append step p.reader before (b ∷ [])))
+    ap (λ (l : List ℕ). record { reader = step (after p.reader before) b; read = l; elements = p.elements; decoded = p.decoded }) (append_assoc p.read before (b ∷ []))
+    ∙ ap (λ (r : TagReader). record { reader = r; read = p.read ++ (before ++ b ∷ []); elements = p.elements; decoded = p.decoded }) (sym (run-append step p.reader before (b ∷ [])))
 
 tag-after-last : (p : Page) (before : List ℕ) (b : ℕ) (tag : Tag) → tags_from p.reader before ≡ [] → ended (after p.reader before) b ≡ Some tag
     → page_after p (before ++ b ∷ []) ≡ behind_tag (read_on p (after p.reader (before ++ b ∷ [])) (before ++ b ∷ [])) tag
@@ -147,10 +147,10 @@ next-tag p q part tag t e tags last is =
     ap (λ (x : PageTag). x ∷ []) (is ∙ ap (λ (x : Page). page_tag x tag) e) ∙ sym (tag-tags p part tag (sym tags) last)
 
 pub read-page : (p : Page) (r : TagReader) (read : List ℕ) (part : List ℕ) → r ≡ after p.reader part → read ≡ p.read ++ part
-    → record { reader = r; read = read; elements = p.elements } ≡ read_on p (after p.reader part) part
+    → record { reader = r; read = read; elements = p.elements; decoded = p.decoded } ≡ read_on p (after p.reader part) part
 read-page p r read part e f =
-    ap (λ (x : TagReader). record { reader = x; read = read; elements = p.elements }) e
-    ∙ ap (λ (l : List ℕ). record { reader = after p.reader part; read = l; elements = p.elements }) f
+    ap (λ (x : TagReader). record { reader = x; read = read; elements = p.elements; decoded = p.decoded }) e
+    ∙ ap (λ (l : List ℕ). record { reader = after p.reader part; read = l; elements = p.elements; decoded = p.decoded }) f
 
 -- why a chunk is refused
 pub only-long : (e : PageReadError) (room long : Type 0) → (e ≡ PageTooLong → room → ⊥) → (e ≡ Memory → long → ⊥) → (e ≡ Failed → ⊥) → room → long → e ≡ TagTooLong

@@ -1,5 +1,5 @@
 -- What a reader keeps of a page.
-use Rattle.std.specs.Prelude.{ℕ, ◌≡◌, ◌-◌, ◌≤◌, ◌<◌, true, List, [], ◌∷◌, length, take, drop, Option, Some, None}
+use Rattle.std.specs.Prelude.{ℕ, Bool, ◌≡◌, ◌-◌, ◌≤◌, ◌<◌, true, List, [], ◌∷◌, length, take, drop, Option, Some, None}
 use Rattle.lol_tags.specs.Places.{HasRead, StandsFrom, needed_from}
 use Rattle.lol_tags.specs.Reading.{may_be_tag}
 use Rattle.lol_tags.specs.declared.reader.Tag.{Tag}
@@ -38,5 +38,5 @@ pub record HoldsTag (k : KeptTags) (tag : Tag) : Type 0 where
   pub text : k.bytes.items ≡ drop tag.start k.past.read
   pub from : k.from ≡ position_behind (take tag.start k.past.read)
 
-abbrev pub page_of : KeptTags → OpenElements → Page
-page_of k o = record { reader = k.reader; read = k.past.read; elements = elements_of o }
+abbrev pub page_of : Bool → KeptTags → OpenElements → Page
+page_of decoded k o = record { reader = k.reader; read = k.past.read; elements = elements_of o; decoded = decoded }

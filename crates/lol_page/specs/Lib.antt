@@ -9,3 +9,4 @@ pub mod Readings
 pub mod PageCuts
 pub mod PageRows
 pub mod PagePlaces
+pub mod ValueLaws

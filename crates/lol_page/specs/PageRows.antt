@@ -35,8 +35,8 @@ pub record PageRow : Type 0 where
 abbrev pub reads : List ℕ → List BriefTag → PageRow
 reads page tags = record { page = page; tags = tags }
 
-abbrev pub tags_read : List PageRow → List (List BriefTag)
-tags_read rows = map (λ (row : PageRow). map brief (page_tags false row.page)) rows
+abbrev pub tags_read : Bool → List PageRow → List (List BriefTag)
+tags_read decoded rows = map (λ (row : PageRow). map brief (page_tags false decoded row.page)) rows
 
 abbrev pub tags_said : List PageRow → List (List BriefTag)
 tags_said rows = map (λ (row : PageRow). row.tags) rows
@@ -73,6 +73,13 @@ point_rows =
     (math (codes "<math>") ∷ math (codes "<annotation-xml encoding=application/xhtml+xml>") ∷ html (codes "<a>") ∷ [])
     ∷ reads (codes "<math><annotation-xml encoding=x encoding=text/html><a>")
     (math (codes "<math>") ∷ math (codes "<annotation-xml encoding=x encoding=text/html>") ∷ math (codes "<a>") ∷ [])
+    ∷ []
+
+-- an integration point, if its `encoding` is decoded: the namespace of what stands inside
+abbrev pub coded_point_rows : Namespace → List PageRow
+coded_point_rows ns =
+    reads (codes "<math><annotation-xml encoding='text&#47;html'><a>")
+    (math (codes "<math>") ∷ math (codes "<annotation-xml encoding='text&#47;html'>") ∷ record { text = codes "<a>"; namespace = Some ns } ∷ [])
     ∷ []
 
 -- what breaks out
@@ -113,7 +120,7 @@ abbrev pub place : ℕ → ℕ → Place
 place line column = record { line = line; column = column }
 
 abbrev pub places_read : List ℕ → List Place
-places_read page = map (λ (t : PageTag). place t.line t.column) (page_tags false page)
+places_read page = map (λ (t : PageTag). place t.line t.column) (page_tags false false page)
 
 -- 10 and 13 are the bytes that end lines.
 abbrev pub lines_page : List ℕ

@@ -3,8 +3,7 @@ use Rattle.std.specs.Prelude.{ℕ, ◌<◌, Bool, true, List, [], ◌∷◌, len
 use Rattle.std.specs.Option.{option_map}
 use Rattle.lol_base.specs.StartTags.{StartTag}
 use Rattle.lol_base.specs.declared.namespace.Namespace.{Namespace}
-use Rattle.lol_tags.specs.Attributes.{attributes_of}
-use Rattle.lol_page.specs.Pages.{Page}
+use Rattle.lol_page.specs.Pages.{Page, attributes_read}
 use Rattle.lol_page.specs.PageTags.{PageTag}
 use Rattle.lol_page.specs.declared.page_reader.PlacedTag.{PlacedTag}
 
@@ -24,9 +23,9 @@ abbrev pub tag_read : List ℕ → Option PlacedTag → Option PageTag
 tag_read text t = option_map (with_text text) t
 
 -- a start tag by its bytes, whose name ends at a place in them
-abbrev pub start_of_name : List ℕ → ℕ → Namespace → Bool → StartTag
-start_of_name text name_end ns self_closing =
-    record { name = slice_range text 1 name_end; namespace = ns; attributes = attributes_of text name_end; self_closing = self_closing; finish = true }
+abbrev pub start_of_name : Bool → List ℕ → ℕ → Namespace → Bool → StartTag
+start_of_name decoded text name_end ns self_closing =
+    record { name = slice_range text 1 name_end; namespace = ns; attributes = attributes_read decoded text name_end; self_closing = self_closing; finish = true }
 
 -- The first of some tags is longer than so many bytes.
 abbrev pub FirstIsLonger : ℕ → List PageTag → Type 0

@@ -10,7 +10,9 @@ mod page_reader;
 mod past;
 mod position;
 pub mod rows;
+mod settings;
 
 pub use error::PageReadError;
 pub use page_reader::{PageRead, PageReader, PlacedTag};
 pub use position::Position;
+pub use settings::PageSettings;

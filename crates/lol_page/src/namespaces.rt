@@ -10,13 +10,16 @@ ghost use Rattle.lol_instructions.specs.Attributes.{value_among};
 ghost use Rattle.lol_tags.specs.Attributes.{attributes_of};
 ghost use Rattle.lol_page.specs.Elements.{element_of};
 ghost use Rattle.lol_page.specs.Namespaces as names;
+ghost use Rattle.lol_page.specs.Pages.{attributes_read};
+ghost use Rattle.lol_page.specs.ValueLaws.{value_read};
 ghost use Rattle.lol_machine.specs.Events as events;
 
 use crate::open_elements::OpenItem;
 use lol_base::{AttributeBuffer, AttributeOutline, Bytes, LocalName, Namespace};
 use lol_instructions::AttributeMatcher;
+use lol_references::{append_decoded, has_ampersand};
 use lol_tags::push_outlines;
-use std::alloc::AllocError;
+use std::alloc::{AllocError, Global};
 
 const SVG_POINTS: [&str; 3] = ["foreignObject", "desc", "title"];
 
@@ -172,6 +175,20 @@ fn is_html_type(value: Option<&[u8]>) -> bool
     }
 }
 
+// The same of a value that is decoded first, if that is set.
+fn is_html_type_read(alloc: Global, value: Option<&[u8]>, decoded: bool) -> Result<bool, AllocError>
+    ensures { IfOk result (λ is. is ≡ names.is_html_type (value_read decoded (option_copied value.entry))) }
+{
+    match value {
+        Some(value) if decoded && has_ampersand(value) => {
+            let mut bytes = Vec::new(alloc);
+            append_decoded(value, &mut bytes)?;
+            Ok(is_html_type(Some(&bytes)))
+        }
+        _ => Ok(is_html_type(value)),
+    }
+}
+
 // Whether a start tag breaks out, whose name ends at a place in its bytes. `outlines` serves to read its attributes.
 pub(crate) fn breaks_out(
     name: &[u8],
@@ -203,10 +220,11 @@ pub(crate) fn holds_html(
     name: &LocalName<'_>,
     text: &[u8],
     name_end: usize,
+    decoded: bool,
     outlines: &mut AttributeBuffer,
 ) -> Result<bool, AllocError>
     ensures { IfOk result (λ holds.
-        holds ≡ names.holds_html_in namespace name.now (attributes_of text.now name_end)) }
+        holds ≡ names.holds_html_in namespace name.now (attributes_read decoded text.now name_end)) }
 {
     match namespace {
         Namespace::Html => Ok(true),
@@ -220,7 +238,8 @@ pub(crate) fn holds_html(
             }
             outlines.clear();
             push_outlines(text, name_end, outlines)?;
-            Ok(is_html_type(find_value(text, outlines, b"encoding")))
+            let encoding = find_value(text, outlines, b"encoding");
+            is_html_type_read(*outlines.allocator(), encoding, decoded)
         }
     }
 }

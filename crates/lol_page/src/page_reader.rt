@@ -14,6 +14,7 @@ use crate::error::PageReadError;
 use crate::kept_tags::KeptTags;
 use crate::namespaces::{breaks_out, end_breaks_out, has_content, holds_html};
 use crate::open_elements::OpenElements;
+use crate::settings::PageSettings;
 use lol_base::{AttributeBuffer, LocalName, Namespace};
 use lol_tags::Tag;
 use lol_tags::laws::unfinished_tags_are_kept;
@@ -100,20 +101,21 @@ pub struct PageReader {
     tags: KeptTags,
     elements: OpenElements,
     outlines: AttributeBuffer,
+    decoded: bool,
     failed: bool,
 }
 
 impl Model for PageReader {
     ghost use Rattle.std.specs.Prelude.{◌≡◌, false};
     ghost use Rattle.std.specs.Coded.{codes};
-    ghost use Rattle.lol_page.specs.Elements.{elements_of, IsSound};
-    ghost use Rattle.lol_page.specs.Keeping.{IsKept};
+    ghost use Rattle.lol_page.specs.Elements.{IsSound};
+    ghost use Rattle.lol_page.specs.Keeping.{IsKept, page_of};
     ghost use Rattle.lol_page.specs.Readings.{Reading};
 
     ghost Value = { Reading };
 
     ghost view = { λ r. record {
-      page = record { reader = r.tags.reader; read = r.tags.past.read; elements = elements_of r.elements };
+      page = page_of r.decoded r.tags r.elements;
       text = r.tags.bytes.items;
       limit = r.tags.limit;
       failed = r.failed;
@@ -123,19 +125,27 @@ impl Model for PageReader {
 }
 
 impl PageReader {
-    /// A reader at the start of a page. If `scripting` is set, the text of `noscript` is read as a browser does that runs scripts. A tag of more
-    /// bytes than `max_tag_bytes` is refused.
-    pub fn new(alloc: Global, scripting: bool, max_tag_bytes: u64) -> Self
-        ensures page { result.page ≡ fresh_page scripting }
-        ensures limit { result.limit ≡ max_tag_bytes }
+    /// A reader at the start of a page. Of its values only the `encoding` of `annotation-xml` decides what is read, and only that is decoded
+    /// here, if `decoded` is set.
+    pub fn new(alloc: Global, settings: PageSettings) -> Self
+        ensures page { result.page ≡ fresh_page settings.scripting settings.decoded }
+        ensures limit { result.limit ≡ settings.max_tag_bytes }
         ensures fresh { result.failed ≡ false }
     {
         PageReader {
-            tags: KeptTags::new(alloc, scripting, max_tag_bytes),
+            tags: KeptTags::new(alloc, settings.scripting, settings.max_tag_bytes),
             elements: OpenElements::new(alloc),
             outlines: Vec::new(alloc),
+            decoded: settings.decoded,
             failed: false,
         }
+    }
+
+    /// Whether values are decoded.
+    pub fn is_decoded(&self) -> bool
+        ensures { result ≡ self.now.page.decoded }
+    {
+        self.decoded
     }
 
     /// The bytes of the tag that was read last, from its `<` to its `>`.
@@ -158,6 +168,7 @@ impl PageReader {
             ≡ page_tags_from self.old.page (take read.taken chunk.now)) }
         ensures whole { IfOk result (λ read. IfNone read.tag (read.taken ≡ length chunk.now)) }
         ensures limit { OnOk result (self.new.limit ≡ self.old.limit) }
+        ensures decoded { OnOk result (self.new.page.decoded ≡ self.old.page.decoded) }
         ensures goes_on { OnOk result (self.new.failed ≡ false) }
         ensures short { OnOk result (FirstIsLonger self.old.limit (page_tags_from self.old.page chunk.now) → ⊥) }
         ensures failed { (result ≡ Err PageReadError.Failed) ↔ (self.old.failed ≡ true) }
@@ -183,7 +194,14 @@ impl PageReader {
                 tag: None,
             });
         };
-        match take_tag(&mut self.tags, &mut self.elements, &mut self.outlines, tag) {
+        let decoded = self.decoded;
+        match take_tag(
+            &mut self.tags,
+            &mut self.elements,
+            &mut self.outlines,
+            decoded,
+            tag,
+        ) {
             Ok(placed) => {
                 self.failed = false;
                 Ok(PageRead {
@@ -201,6 +219,7 @@ fn take_tag(
     tags: &mut KeptTags,
     elements: &mut OpenElements,
     outlines: &mut AttributeBuffer,
+    decoded: bool,
     tag: Tag,
 ) -> Result<PlacedTag, AllocError>
     requires sound { IsSound elements.old }
@@ -209,9 +228,10 @@ fn take_tag(
     requires room { tags.old.reader.at < 2 ^ 64 }
     ensures sound { OnOk result (IsSound elements.new) }
     ensures kept { OnOk result (IsKept tags.new) }
-    ensures page { OnOk result (page_of tags.new elements.new ≡ behind_tag (page_of tags.old elements.old) tag) }
+    ensures page { OnOk result (page_of decoded tags.new elements.new
+        ≡ behind_tag (page_of decoded tags.old elements.old) tag) }
     ensures tag { IfOk result (λ placed.
-        with_text tags.new.bytes.items placed ≡ page_tag (page_of tags.old elements.old) tag) }
+        with_text tags.new.bytes.items placed ≡ page_tag (page_of decoded tags.old elements.old) tag) }
     ensures limit { tags.new.limit ≡ tags.old.limit }
 {
     unfinished_tags_are_kept();
@@ -220,7 +240,14 @@ fn take_tag(
         take_end(&tags.bytes[2..name_end], elements);
         None
     } else {
-        Some(take_start(&tags.bytes, name_end, tag.self_closing, elements, outlines)?)
+        Some(take_start(
+            &tags.bytes,
+            name_end,
+            tag.self_closing,
+            decoded,
+            elements,
+            outlines,
+        )?)
     };
     tags.reader.set_foreign(elements.is_foreign());
     Ok(PlacedTag {
@@ -249,6 +276,7 @@ fn take_start(
     text: &[u8],
     name_end: usize,
     self_closing: bool,
+    decoded: bool,
     elements: &mut OpenElements,
     outlines: &mut AttributeBuffer,
 ) -> Result<Namespace, AllocError>
@@ -261,7 +289,7 @@ fn take_start(
         (elements_of elements.old))
         (local_name (slice_range text.now 1 name_end))) }
     ensures elements { IfOk result (λ ns. elements_of elements.new ≡ opened_by
-        (start_of_name text.now name_end ns self_closing)
+        (start_of_name decoded text.now name_end ns self_closing)
         (left_by (local_name (slice_range text.now 1 name_end)) (attributes_of text.now name_end)
         (elements_of elements.old))) }
 {
@@ -269,7 +297,7 @@ fn take_start(
     let name = LocalName::new(&text[1..name_end]);
     let namespace = elements.namespace_of(&name);
     if has_content(namespace, &name, self_closing) {
-        let holds = holds_html(namespace, &name, text, name_end, outlines)?;
+        let holds = holds_html(namespace, &name, text, name_end, decoded, outlines)?;
         let name = name.into_owned(elements.alloc)?;
         elements.open(name, namespace, holds)?;
     }

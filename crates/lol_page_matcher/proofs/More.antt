@@ -17,11 +17,11 @@ module _ {T : Type 0} (p q : Page T) (s : List ℕ) (i n : ℕ) (before : ReadsO
   pub read_part : (r : Page T) → ReadsOn q r part → ReadsOn p r (take (i + n) s)
   read_part r now = subst (ReadsOn p r) whole (reads_both p q (take i s) part before r now)
 
-  pub found_part : (found : List PageMatch) → matches_told p.matcher.told (page_tags_from p.reader.page (take i s)) ≡ []
-      → found ≡ matches_told q.matcher.told (page_tags_from q.reader.page part) → found ≡ matches_told p.matcher.told (page_tags_from p.reader.page (take (i + n) s))
+  pub found_part : (found : List PageMatch) → matches_told p.reader.page.decoded p.matcher.told (page_tags_from p.reader.page (take i s)) ≡ []
+      → found ≡ matches_told q.reader.page.decoded q.matcher.told (page_tags_from q.reader.page part) → found ≡ matches_told p.reader.page.decoded p.matcher.told (page_tags_from p.reader.page (take (i + n) s))
   found_part found none now =
-      now ∙ ap (λ (ms : List PageMatch). ms ++ matches_told q.matcher.told (page_tags_from q.reader.page part)) (sym none)
-      ∙ sym (matches_both p q (take i s) part before) ∙ ap (λ (x : List ℕ). matches_told p.matcher.told (page_tags_from p.reader.page x)) whole
+      now ∙ ap (λ (ms : List PageMatch). ms ++ matches_told q.reader.page.decoded q.matcher.told (page_tags_from q.reader.page part)) (sym none)
+      ∙ sym (matches_both p q (take i s) part before) ∙ ap (λ (x : List ℕ). matches_told p.reader.page.decoded p.matcher.told (page_tags_from p.reader.page x)) whole
 
 pub part_within : (s : List ℕ) (i n : ℕ) → i ≤ length s → n ≤ length (take (length s - i) (drop i s)) → i + n ≤ length s
 part_within s i n h k =

@@ -1,13 +1,9 @@
 -- What is told of a tag, and why it is refused.
-use Rattle.std.proofs.Common.{◌≡◌, ℕ, ◌-◌, ◌^◌, ◌≤◌, ◌<◌, arith, false, true, refl, Bool, List, [], ◌∷◌, ◌++◌, length, map, take, drop, Option, Some, None, sym, ap, subst, ◌∙◌, take-append-drop, take_all}
+use Rattle.std.proofs.Common.{◌≡◌, ℕ, ◌-◌, ◌^◌, ◌≤◌, ◌<◌, arith, false, true, refl, Bool, List, [], ◌∷◌, ◌++◌, length, take, drop, Option, Some, None, sym, ap, subst, ◌∙◌, take-append-drop, take_all}
 use Rattle.std.specs.Prelude.{is_some}
-use Rattle.std.proofs.lemmas.List.Elements.{All-nil}
-use Rattle.std.specs.List.{All}
-use Rattle.lol_base.specs.StartTags.{Attribute, OutlineIsInside, StartTag, attribute_of}
+use Rattle.lol_base.specs.StartTags.{Attribute, StartTag}
 use Rattle.lol_base.specs.declared.namespace.Namespace.{Namespace}
-use Rattle.lol_base.specs.declared.start_tag.AttributeOutline.{AttributeOutline}
 use Rattle.lol_stack.specs.Calls.{IsCalledAtEach}
-use Rattle.lol_tags.specs.Attributes.{attributes_of, outlines_of}
 use Rattle.lol_tags.specs.Runs.{given-append, with_some}
 use Rattle.lol_tags.specs.declared.reader.Tag.{Tag}
 use Rattle.lol_memory.specs.declared.match_info.MatchInfo.{MatchInfo}
@@ -19,10 +15,10 @@ use Rattle.lol_matcher.specs.declared.error.MatcherError.TheVariants as refused
 use Rattle.lol_matcher.specs.declared.open_element.OpenElement.{OpenElement}
 use Rattle.lol_page.specs.PageTags.{PageTag}
 use Rattle.lol_page.specs.Pages as pages
-use Rattle.lol_page.specs.Pages.{page_after, page_ended, page_step, page_tags_from, written_name, written_start}
-use Rattle.lol_page.specs.Readings.{tag_read, with_text}
+use Rattle.lol_page.specs.Pages.{page_after, page_ended, page_step, page_tags_from, attributes_read, written_name, written_start}
+use Rattle.lol_page.specs.Readings.{tag_read}
 use Rattle.lol_page.specs.declared.page_reader.PlacedTag.{PlacedTag}
-use Rattle.lol_page_matcher.specs.PageMatches.{PageMatch, handed_out, handed_out_by, match_read}
+use Rattle.lol_page_matcher.specs.PageMatches.{handed_out, handed_out_by, match_read}
 use Rattle.lol_page_matcher.specs.PageRefusals.{FitsFirst, FitsTag, Refuses, RefusesFirst, RefusesStart, RefusesTag}
 use Rattle.lol_page_matcher.specs.declared.error.PageError.{PageError}
 use Rattle.lol_page_matcher.specs.declared.error.PageError.TheVariants.{Read, Matcher, Failed, Memory}
@@ -31,23 +27,15 @@ use Rattle.lol_page_matcher.specs.declared.page.Page.{Page}
 abbrev pub start_tag : List ℕ → Namespace → List Attribute → Bool → StartTag
 start_tag name ns attributes self_closing = record { name = name; namespace = ns; attributes = attributes; self_closing = self_closing; finish = true }
 
--- The start tag that is handed over has the name and the attributes of the tag's own bytes: `mid` and `input` are these bytes, as they are passed on.
-pub written_is : (text mid input name : List ℕ) (tag : Tag) (ns : Namespace) (name_end : ℕ) (before outlines : List AttributeOutline)
-    → mid ≡ text → input ≡ mid → name ≡ written_name mid tag → name_end ≡ tag.name_end - tag.start → before ≡ [] → outlines ≡ before ++ outlines_of mid name_end
-    → start_tag name ns (map (attribute_of input) outlines) tag.self_closing ≡ written_start text tag ns
-written_is text mid input name tag ns name_end before outlines mid_is input_is name_is end_is none found =
+-- The start tag that is handed over has the name and the attributes of the tag's own bytes: `mid` is these bytes, as they are passed on.
+pub written_is : (decoded passed : Bool) (text mid name : List ℕ) (tag : Tag) (ns : Namespace) (name_end : ℕ) (attributes : List Attribute) (closing : Bool)
+    → passed ≡ decoded → mid ≡ text → name ≡ written_name mid tag → name_end ≡ tag.name_end - tag.start
+    → attributes ≡ attributes_read passed mid name_end → closing ≡ tag.self_closing
+    → start_tag name ns attributes closing ≡ written_start decoded text tag ns
+written_is decoded passed text mid name tag ns name_end attributes closing passed_is mid_is name_is end_is read closing_is =
     let names : name ≡ written_name text tag = name_is ∙ ap (λ (x : List ℕ). written_name x tag) mid_is in
-    let attributes : map (attribute_of input) outlines ≡ attributes_of text (tag.name_end - tag.start) =
-    ap (map (attribute_of input)) (found ∙ ap (λ (l : List AttributeOutline). l ++ outlines_of mid name_end) none)
-    ∙ ap (λ (x : List ℕ). map (attribute_of x) (outlines_of mid name_end)) input_is
-    ∙ (ap (attributes_of mid) end_is ∙ ap (λ (x : List ℕ). attributes_of x (tag.name_end - tag.start)) mid_is) in
-    λ i. start_tag (names i) ns (attributes i) tag.self_closing
-
--- its attributes stand in it
-pub are_inside : (mid input : List ℕ) (before outlines : List AttributeOutline) → input ≡ mid → before ≡ []
-    → (All (OutlineIsInside mid) before → All (OutlineIsInside mid) outlines) → All (OutlineIsInside input) outlines
-are_inside mid input before outlines input_is none inside =
-    subst (λ (x : List ℕ). All (OutlineIsInside x) outlines) (sym input_is) (inside (subst (All (OutlineIsInside mid)) (sym none) (All-nil (OutlineIsInside mid))))
+    let all : attributes ≡ attributes_read decoded text (tag.name_end - tag.start) = read ∙ (λ i. attributes_read (passed_is i) (mid_is i) (end_is i)) in
+    λ i. start_tag (names i) ns (all i) (closing_is i)
 
 -- The tag that ends in the first bytes of a chunk is its first.
 first_is : (p : pages.Page) (bytes : List ℕ) (n : ℕ) (t : PageTag) → t ∷ [] ≡ page_tags_from p (take n bytes)
@@ -72,23 +60,24 @@ module _ {T : Type 0} where
   refuses_start m tag refused.OutsideInput failed asked inside is = absurd (inside refl)
 
   refuses_if : (error : PageError) (p : Page T) (bytes : List ℕ) (t : PageTag) (tags : List PageTag) → page_tags_from p.reader.page bytes ≡ t ∷ tags
-      → RefusesTag error p.matcher t.text t.tag t.namespace → Refuses error p bytes
+      → RefusesTag p.reader.page.decoded error p.matcher t.text t.tag t.namespace → Refuses error p bytes
   refuses_if (Read error) p bytes t tags first is = absurd is
-  refuses_if (Matcher error) p bytes t tags first is = subst (RefusesFirst (Matcher error) p.matcher) (sym first) is
+  refuses_if (Matcher error) p bytes t tags first is = subst (RefusesFirst p.reader.page.decoded (Matcher error) p.matcher) (sym first) is
   refuses_if Failed p bytes t tags first is = absurd is
-  refuses_if Memory p bytes t tags first is = subst (RefusesFirst Memory p.matcher) (sym first) is
+  refuses_if Memory p bytes t tags first is = subst (RefusesFirst p.reader.page.decoded Memory p.matcher) (sym first) is
 
   pub refuses_first : (error : PageError) (p : Page T) (bytes : List ℕ) (n : ℕ) (t : PageTag) → t ∷ [] ≡ page_tags_from p.reader.page (take n bytes)
-      → RefusesTag error p.matcher t.text t.tag t.namespace → Refuses error p bytes
+      → RefusesTag p.reader.page.decoded error p.matcher t.text t.tag t.namespace → Refuses error p bytes
   refuses_first error p bytes n t first is = refuses_if error p bytes t _ (first_is p.reader.page bytes n t first) is
 
-  pub fits_first : (m : Matching T) (p : pages.Page) (bytes : List ℕ) (n : ℕ) (t : PageTag) → t ∷ [] ≡ page_tags_from p (take n bytes)
-      → FitsTag m t.text t.tag t.namespace → FitsFirst m (page_tags_from p bytes)
-  fits_first m p bytes n t first fits = subst (FitsFirst m) (sym (first_is p bytes n t first)) fits
+  pub fits_first : (decoded : Bool) (m : Matching T) (p : pages.Page) (bytes : List ℕ) (n : ℕ) (t : PageTag) → t ∷ [] ≡ page_tags_from p (take n bytes)
+      → FitsTag decoded m t.text t.tag t.namespace → FitsFirst decoded m (page_tags_from p bytes)
+  fits_first decoded m p bytes n t first fits = subst (FitsFirst decoded m) (sym (first_is p bytes n t first)) fits
 
-  pub fits_none : (m : Matching T) (p : pages.Page) (bytes : List ℕ) (n : ℕ) → [] ≡ page_tags_from p (take n bytes) → n ≡ length bytes → FitsFirst m (page_tags_from p bytes)
-  fits_none m p bytes n none whole =
-      subst (FitsFirst m) (none ∙ ap (page_tags_from p) (ap (λ (k : ℕ). take k bytes) whole ∙ take_all (length bytes) bytes (omega arith))) tt
+  pub fits_none : (decoded : Bool) (m : Matching T) (p : pages.Page) (bytes : List ℕ) (n : ℕ) → [] ≡ page_tags_from p (take n bytes) → n ≡ length bytes
+      → FitsFirst decoded m (page_tags_from p bytes)
+  fits_none decoded m p bytes n none whole =
+      subst (FitsFirst decoded m) (none ∙ ap (page_tags_from p) (ap (λ (k : ℕ). take k bytes) whole ∙ take_all (length bytes) bytes (omega arith))) tt
 
   module _ {F : Type 0} (step : F → OpenElement T → Unit {0} → F → Type 0) (f : F) (m : Matching T) where
     pub closes_some : (g h : F) (text mid : List ℕ) (read : Option PlacedTag) (placed : PlacedTag) → h ≡ g → text ≡ mid → read ≡ Some placed

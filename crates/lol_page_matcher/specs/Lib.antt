@@ -1,3 +1,4 @@
 pub mod PageMatches
 pub mod PageRefusals
 pub mod MatchLaws
+pub mod HeldAttributes

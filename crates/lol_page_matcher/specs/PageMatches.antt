@@ -33,23 +33,24 @@ match_if tag (m ∷ matched) = Some (record { tag = tag; matched = m ∷ matched
 abbrev pub matched_of : List Answer → List Match
 matched_of answers = flat_map matches_in answers
 
--- the matches of tags, by the answers to all their events
-abbrev pub matches_by : List PageTag → List Answer → List PageMatch
-matches_by [] answers = []
-matches_by (tag ∷ tags) answers =
-    with_some (match_if tag (matched_of (take (length (events_of tag)) answers))) (matches_by tags (drop (length (events_of tag)) answers))
+-- the matches of tags, whose values are decoded or not, by the answers to all their events
+abbrev pub matches_by : Bool → List PageTag → List Answer → List PageMatch
+matches_by decoded [] answers = []
+matches_by decoded (tag ∷ tags) answers =
+    let count = length (events_of decoded tag) in
+    with_some (match_if tag (matched_of (take count answers))) (matches_by decoded tags (drop count answers))
 
--- The matches of a page: what lol_vm answers to the events of the whole page.
-abbrev pub page_matches : Selectors → Bool → Bool → List ℕ → List PageMatch
-page_matches s esi scripting page = matches_by (page_tags scripting page) (answers s esi (page_events scripting page))
+-- The matches of a page: what lol_vm answers to the events of the whole page. The last two `Bool`s are those of `page_tags`.
+abbrev pub page_matches : Selectors → Bool → Bool → Bool → List ℕ → List PageMatch
+page_matches s esi scripting decoded page = matches_by decoded (page_tags scripting decoded page) (answers s esi (page_events scripting decoded page))
 
 -- the answers to events that come after what a matcher has heard
 abbrev pub answers_told : Told → List Event → List Answer
 answers_told t events = answers_from (selectors t.ast) t.esi (document (selectors t.ast) t.esi (heard t)) events
 
 -- the matches of tags that a matcher is told of, after what it has heard
-abbrev pub matches_told : Told → List PageTag → List PageMatch
-matches_told t tags = matches_by tags (answers_told t (events_of_tags tags))
+abbrev pub matches_told : Bool → Told → List PageTag → List PageMatch
+matches_told decoded t tags = matches_by decoded tags (answers_told t (events_of_tags decoded tags))
 
 -- A matcher heard these events more.
 pub record HearsOn (old new : Told) (events : List Event) : Type 0 where
@@ -64,7 +65,7 @@ match_read text matched tag = option_map (λ placed. record { tag = with_text te
 -- A page was read on by some bytes: its matcher was told of their tags, and of nothing else. The bounds of both stay, and whether they have failed.
 pub record ReadsOn {T : Type 0} (old new : Page T) (bytes : List ℕ) : Type 0 where
   pub page : new.reader.page ≡ page_after old.reader.page bytes
-  pub told : HearsOn old.matcher.told new.matcher.told (events_of_tags (page_tags_from old.reader.page bytes))
+  pub told : HearsOn old.matcher.told new.matcher.told (events_of_tags old.reader.page.decoded (page_tags_from old.reader.page bytes))
   pub reader_failed : new.reader.failed ≡ old.reader.failed
   pub matcher_failed : new.matcher.failed ≡ old.matcher.failed
   pub max_tag_bytes : new.reader.limit ≡ old.reader.limit

@@ -1,5 +1,5 @@
 -- Why a page isn't read on.
-use Rattle.std.specs.Prelude.{ℕ, ◌≡◌, ◌+◌, ◌^◌, ◌≤◌, ◌<◌, true, List, [], ◌∷◌, length, take, drop, Option, Some, None}
+use Rattle.std.specs.Prelude.{ℕ, Bool, ◌≡◌, ◌+◌, ◌^◌, ◌≤◌, ◌<◌, true, List, [], ◌∷◌, length, take, drop, Option, Some, None}
 use Rattle.lol_base.specs.declared.namespace.Namespace.{Namespace}
 use Rattle.lol_base.specs.StartTags.{StartTag}
 use Rattle.lol_tags.specs.declared.reader.Tag.{Tag}
@@ -14,7 +14,7 @@ use Rattle.lol_page.specs.declared.error.PageReadError as reader
 use Rattle.lol_page.specs.declared.error.PageReadError.TheVariants as unread
 use Rattle.lol_page_matcher.specs.PageMatches.{ReadsOn, matches_told}
 use Rattle.lol_page_matcher.specs.declared.error.PageError.{PageError}
-use Rattle.lol_page_matcher.specs.declared.error.PageError.TheVariants.{Read, Matcher, Failed, Memory}
+use Rattle.lol_page_matcher.specs.declared.error.PageError.TheVariants.{Read, Matcher, Memory}
 use Rattle.lol_page_matcher.specs.declared.page.Page.{Page}
 
 -- A reader of a page refuses these bytes for this.
@@ -30,36 +30,36 @@ RefusesStart refused.Failed m tag = m.failed ≡ true
 RefusesStart error m tag = RefusesStartWith error m tag
 
 -- The tag with these bytes is refused for this: `Memory` is of its attributes. An end tag never is.
-abbrev pub RefusesTag : {T : Type 0} → PageError → Matching T → List ℕ → Tag → Option Namespace → Type 0
-RefusesTag (Matcher error) m text tag (Some ns) = RefusesStart error m (written_start text tag ns)
-RefusesTag Memory m text tag (Some ns) = Unit {0}
-RefusesTag error m text tag ns = ⊥
+abbrev pub RefusesTag : {T : Type 0} → Bool → PageError → Matching T → List ℕ → Tag → Option Namespace → Type 0
+RefusesTag decoded (Matcher error) m text tag (Some ns) = RefusesStart error m (written_start decoded text tag ns)
+RefusesTag decoded Memory m text tag (Some ns) = Unit {0}
+RefusesTag decoded error m text tag ns = ⊥
 
 -- the first of some tags
-abbrev pub RefusesFirst : {T : Type 0} → PageError → Matching T → List PageTag → Type 0
-RefusesFirst error m [] = ⊥
-RefusesFirst error m (t ∷ tags) = RefusesTag error m t.text t.tag t.namespace
+abbrev pub RefusesFirst : {T : Type 0} → Bool → PageError → Matching T → List PageTag → Type 0
+RefusesFirst decoded error m [] = ⊥
+RefusesFirst decoded error m (t ∷ tags) = RefusesTag decoded error m t.text t.tag t.namespace
 
 -- With these bytes next, a page isn't read on for this: the reader refuses them, or the matcher the first tag that ends in them.
 abbrev pub Refuses : {T : Type 0} → PageError → Page T → List ℕ → Type 0
 Refuses (Read error) p bytes = RefusesBytes error p.reader bytes
-Refuses error p bytes = RefusesFirst error p.matcher (page_tags_from p.reader.page bytes)
+Refuses error p bytes = RefusesFirst p.reader.page.decoded error p.matcher (page_tags_from p.reader.page bytes)
 
 -- the tag with these bytes isn't refused, memory aside
-abbrev pub FitsTag : {T : Type 0} → Matching T → List ℕ → Tag → Option Namespace → Type 0
-FitsTag m text tag None = Unit {0}
-FitsTag m text tag (Some ns) = refusal_of m (heard m.told) (written_start text tag ns) ≡ None
+abbrev pub FitsTag : {T : Type 0} → Bool → Matching T → List ℕ → Tag → Option Namespace → Type 0
+FitsTag decoded m text tag None = Unit {0}
+FitsTag decoded m text tag (Some ns) = refusal_of m (heard m.told) (written_start decoded text tag ns) ≡ None
 
 -- the first of some tags
-abbrev pub FitsFirst : {T : Type 0} → Matching T → List PageTag → Type 0
-FitsFirst m [] = Unit {0}
-FitsFirst m (t ∷ tags) = FitsTag m t.text t.tag t.namespace
+abbrev pub FitsFirst : {T : Type 0} → Bool → Matching T → List PageTag → Type 0
+FitsFirst decoded m [] = Unit {0}
+FitsFirst decoded m (t ∷ tags) = FitsTag decoded m t.text t.tag t.namespace
 
 -- With these bytes next, nothing but want of memory keeps a page from being read on up to the first tag that ends in them.
 pub record Accepts {T : Type 0} (p : Page T) (bytes : List ℕ) : Type 0 where
   pub room : p.reader.page.reader.at + length bytes < 2 ^ 64
   pub short : FirstIsLonger p.reader.limit (page_tags_from p.reader.page bytes) → ⊥
-  pub fits : FitsFirst p.matcher (page_tags_from p.reader.page bytes)
+  pub fits : FitsFirst p.reader.page.decoded p.matcher (page_tags_from p.reader.page bytes)
 
 -- A page was refused for this in a chunk: so many bytes were read, none of whose tags is reported, and then what comes next was refused.
 pub record IsRefused {T : Type 0} (error : PageError) (old new : Page T) (chunk : List ℕ) : Type 0 where
@@ -67,6 +67,6 @@ pub record IsRefused {T : Type 0} (error : PageError) (old new : Page T) (chunk 
   pub within : taken ≤ length chunk
   pub before : Page T
   pub read : ReadsOn old before (take taken chunk)
-  pub unreported : matches_told old.matcher.told (page_tags_from old.reader.page (take taken chunk)) ≡ []
+  pub unreported : matches_told old.reader.page.decoded old.matcher.told (page_tags_from old.reader.page (take taken chunk)) ≡ []
   pub refused : Refuses error before (drop taken chunk)
   pub told : new.matcher.told ≡ before.matcher.told

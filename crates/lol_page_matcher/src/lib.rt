@@ -3,6 +3,7 @@
 
 mod error;
 mod page;
+mod tag_attributes;
 
 pub use error::PageError;
 pub use page::Page;

@@ -13,11 +13,10 @@ ghost use Rattle.lol_matcher.specs.Told.{elements_of};
 ghost use Rattle.lol_machine.specs.Views.{match_of, selectors};
 
 use crate::error::PageError;
-use lol_base::{AttributeBuffer, AuxStartTagInfo, Bytes};
+use crate::tag_attributes::TagAttributes;
 use lol_machine::vm_laws::standing_counts;
 use lol_matcher::{MatchInfo, Matcher, OpenElement};
-use lol_page::{PageRead, PageReader, PlacedTag};
-use lol_tags::push_outlines;
+use lol_page::{PageRead, PageReader, PageSettings, PlacedTag};
 use std::alloc::Global;
 
 /// A page whose tags are told to a matcher. Each open element may have a value of the caller's own, of the type `T`.
@@ -25,23 +24,22 @@ use std::alloc::Global;
 pub struct Page<T = ()> {
     reader: PageReader,
     matcher: Matcher<T>,
-    outlines: AttributeBuffer,
+    attributes: TagAttributes,
     failed: bool,
 }
 
 impl<T: Drop> Page<T> {
-    /// A page at its start. If `scripting` is set, the text of `noscript` is read as a browser does that runs scripts. A tag of more bytes than
-    /// `max_tag_bytes` is refused.
-    pub fn new(alloc: Global, matcher: Matcher<T>, scripting: bool, max_tag_bytes: u64) -> Self
-        ensures page { result.reader.page ≡ fresh_page scripting }
+    /// A page at its start.
+    pub fn new(alloc: Global, matcher: Matcher<T>, settings: PageSettings) -> Self
+        ensures page { result.reader.page ≡ fresh_page settings.scripting settings.decoded }
         ensures matcher { result.matcher ≡ matcher }
-        ensures limit { result.reader.limit ≡ max_tag_bytes }
+        ensures limit { result.reader.limit ≡ settings.max_tag_bytes }
         ensures fresh { (result.reader.failed ≡ false) × (result.failed ≡ false) }
     {
         Page {
-            reader: PageReader::new(alloc, scripting, max_tag_bytes),
+            reader: PageReader::new(alloc, settings),
             matcher,
-            outlines: Vec::new(alloc),
+            attributes: TagAttributes::new(alloc),
             failed: false,
         }
     }
@@ -102,7 +100,7 @@ impl<T: Drop> Page<T> {
         let Page {
             reader: _,
             matcher,
-            outlines: _,
+            attributes: _,
             failed: _,
         } = self;
         matcher
@@ -117,7 +115,7 @@ impl<T: Drop> Page<T> {
         ensures read { IfOk result (λ read. ReadsOn self.old self.new (take read.taken chunk.now)) }
         ensures found { IfOk result (λ read.
             with_some (match_read self.new.reader.text self.new.matcher.matched read.tag) []
-            ≡ matches_told self.old.matcher.told (page_tags_from self.old.reader.page (take read.taken chunk.now))) }
+            ≡ matches_told self.old.reader.page.decoded self.old.matcher.told (page_tags_from self.old.reader.page (take read.taken chunk.now))) }
         ensures whole { IfOk result (λ read. IfNone read.tag (read.taken ≡ length chunk.now)) }
         ensures goes_on { OnOk result (self.new.failed ≡ false) }
         ensures failed { (result ≡ Err PageError.Failed) ↔ (self.old.failed ≡ true) }
@@ -152,7 +150,7 @@ impl<T: Drop> Page<T> {
         ensures read { IfOk result (λ read. ReadsOn self.old self.new (take read.taken rest.now)) }
         ensures found { IfOk result (λ read.
             with_some (match_read self.new.reader.text self.new.matcher.matched read.tag) []
-            ≡ matches_told self.old.matcher.told (page_tags_from self.old.reader.page (take read.taken rest.now))) }
+            ≡ matches_told self.old.reader.page.decoded self.old.matcher.told (page_tags_from self.old.reader.page (take read.taken rest.now))) }
         ensures goes_on { OnOk result (self.new.failed ≡ false) }
         ensures failed { result ≡ Err PageError.Failed → self.old.failed ≡ true }
         ensures refused { IfErr result (λ error. self.old.failed ≡ false → Refuses error self.old rest.now) }
@@ -175,7 +173,7 @@ impl<T: Drop> Page<T> {
     ///
     /// # Errors
     /// `Read`: the page was refused. `Matcher`: the next tag is a start tag that the matcher refuses. `Memory`: it is a start tag, and there is no
-    /// memory for its attributes. After each of them nothing more is read: every later call returns `Failed`.
+    /// memory to list its attributes or to decode them. After each of them nothing more is read: every later call returns `Failed`.
     pub fn next_tag<F: FnMut(OpenElement<T>)>(
         &mut self,
         chunk: &[u8],
@@ -188,7 +186,7 @@ impl<T: Drop> Page<T> {
         ensures tag { IfOk result (λ read. with_some (tag_read self.new.reader.text read.tag) []
             ≡ page_tags_from self.old.reader.page (take read.taken chunk.now)) }
         ensures matched { IfOk result (λ read. IfSome read.tag (λ placed. map match_of self.new.matcher.matched
-            ≡ matched_of (answers_told self.old.matcher.told (events_of (with_text self.new.reader.text placed))))) }
+            ≡ matched_of (answers_told self.old.matcher.told (events_of self.old.reader.page.decoded (with_text self.new.reader.text placed))))) }
         ensures closed { IfOk result (λ read. IsCalledAtEach F.step handler.old
             (handed_out self.old.matcher (tag_read self.new.reader.text read.tag)) handler.new) }
         ensures whole { IfOk result (λ read. IfNone read.tag (read.taken ≡ length chunk.now)) }
@@ -225,9 +223,9 @@ impl<T: Drop> Page<T> {
         requires { F.IsAlwaysCallable handler.old }
         ensures again { F.IsAlwaysCallable handler.new }
         ensures told { OnOk result (HearsOn self.old.matcher.told self.new.matcher.told
-            (events_of (with_text self.old.reader.text placed.now))) }
+            (events_of self.old.reader.page.decoded (with_text self.old.reader.text placed.now))) }
         ensures matched { OnOk result (map match_of self.new.matcher.matched
-            ≡ matched_of (answers_told self.old.matcher.told (events_of (with_text self.old.reader.text placed.now)))) }
+            ≡ matched_of (answers_told self.old.matcher.told (events_of self.old.reader.page.decoded (with_text self.old.reader.text placed.now)))) }
         ensures closed { OnOk result (IsCalledAtEach F.step handler.old
             (handed_out_by self.old.matcher self.old.reader.text placed.now.tag placed.now.namespace) handler.new) }
         ensures matcher_failed { OnOk result (self.new.matcher.failed ≡ self.old.matcher.failed) }
@@ -236,9 +234,9 @@ impl<T: Drop> Page<T> {
         ensures reader { self.new.reader ≡ self.old.reader }
         ensures failed { self.new.failed ≡ self.old.failed }
         ensures fits { OnOk result
-            (FitsTag self.old.matcher self.old.reader.text placed.now.tag placed.now.namespace) }
+            (FitsTag self.old.reader.page.decoded self.old.matcher self.old.reader.text placed.now.tag placed.now.namespace) }
         ensures refused { IfErr result (λ error.
-            RefusesTag error self.old.matcher self.old.reader.text placed.now.tag placed.now.namespace) }
+            RefusesTag self.old.reader.page.decoded error self.old.matcher self.old.reader.text placed.now.tag placed.now.namespace) }
         ensures untold { OnErr result (self.new.matcher.told ≡ self.old.matcher.told) }
         ensures unasked { result ≡ Err PageError.Memory → self.new.matcher ≡ self.old.matcher }
         ensures unclosed { OnErr result (handler.new ≡ handler.old) }
@@ -249,15 +247,11 @@ impl<T: Drop> Page<T> {
             self.matcher.end_with(name, handler);
             return Ok(());
         };
-        self.outlines.clear();
-        let Ok(()) = push_outlines(text, placed.name_end(), &mut self.outlines) else {
+        let decoded = self.reader.is_decoded();
+        let Ok(()) = self.attributes.read(text, placed.name_end(), decoded) else {
             return Err(PageError::Memory);
         };
-        let aux_info = AuxStartTagInfo {
-            input: Bytes::new(text),
-            attr_buffer: &self.outlines,
-            self_closing: placed.tag.self_closing,
-        };
+        let aux_info = self.attributes.aux_info(text, placed.tag.self_closing);
         match self.matcher.start_with(name, namespace, aux_info) {
             Ok(_asked) => Ok(()),
             Err(error) => Err(PageError::Matcher(error)),

@@ -2,7 +2,7 @@
 
 ghost use Rattle.std.specs.Prelude.{◌<◌};
 
-use crate::pages::push_number;
+use crate::pages::{AS_WRITTEN, push_number};
 use lol_matcher::{Matcher, OpenElement};
 use lol_page_matcher::{Page, PageError};
 use std::alloc::Global;
@@ -69,7 +69,7 @@ fn depths_in_chunks(alloc: Global, size: usize) -> Option<Vec<u8>>
     requires { 0 < size }
 {
     let matcher = Matcher::builder(alloc).build_with_values::<u64>().ok()?;
-    let mut page = Page::new(alloc, matcher, false, 100);
+    let mut page = Page::new(alloc, matcher, AS_WRITTEN);
     let mut written = Written {
         text: Vec::new(alloc),
     };

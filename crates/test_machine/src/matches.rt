@@ -2,9 +2,9 @@
 
 ghost use Rattle.std.specs.Prelude.{◌<◌};
 
-use crate::pages::push_number;
+use crate::pages::{AS_WRITTEN, push_number};
 use lol_matcher::{MatchInfo, Matcher};
-use lol_page::PlacedTag;
+use lol_page::{PageSettings, PlacedTag};
 use lol_page_matcher::{Page, PageError};
 use std::alloc::{AllocError, Global};
 use std::test::Fail;
@@ -13,6 +13,10 @@ const PAGE: &[u8] =
     b"<main>\n<a href=x>1</a><a>2</a>\n<svg><a href=y/></svg><!--<a href=z>--><textarea><a href=w></textarea></main><a href=v>";
 
 const MATCHES: &[u8] = b"2:1 0 2;2:16 2;3:6 0 1 2;3:78 2;";
+
+// Links as wikis write them, and one with a name that is left before `=`.
+const CODED: &[u8] =
+    b"<a href=\"/w/?title=A&amp;action=edit\" title='Edit &quot;A&quot;'>edit</a>\n<a href=/w/?a&copy=1>";
 
 fn matcher_of_links(alloc: Global) -> Option<Matcher> {
     let mut builder = Matcher::builder(alloc);
@@ -53,12 +57,27 @@ fn push_matches(page: &mut Page, chunk: &[u8], out: &mut Vec<u8>) -> Result<(), 
     Ok(())
 }
 
-fn matches_in_chunks(alloc: Global, size: usize) -> Option<Vec<u8>>
+fn matcher_of_coded(alloc: Global) -> Option<Matcher> {
+    let mut builder = Matcher::builder(alloc);
+    builder.add(0, "[href$='?title=A&action=edit']").ok()?;
+    builder.add(1, "[title='Edit \"A\"']").ok()?;
+    builder.add(2, "[href*='&amp;']").ok()?;
+    builder.add(3, "[href$='a&copy=1']").ok()?;
+    builder.build().ok()
+}
+
+fn matches_in_chunks(
+    alloc: Global,
+    matcher: Option<Matcher>,
+    settings: PageSettings,
+    text: &[u8],
+    size: usize,
+) -> Option<Vec<u8>>
     requires { 0 < size }
 {
-    let mut page = Page::new(alloc, matcher_of_links(alloc)?, false, 100);
+    let mut page = Page::new(alloc, matcher?, settings);
     let mut out = Vec::new(alloc);
-    for chunk in PAGE.chunks(size) {
+    for chunk in text.chunks(size) {
         push_matches(&mut page, chunk, &mut out).ok()?;
     }
     Some(out)
@@ -67,8 +86,30 @@ fn matches_in_chunks(alloc: Global, size: usize) -> Option<Vec<u8>>
 #[test]
 fn links_of_a_page(rt: HostRuntime) -> Result<(), Fail> {
     for size in 1..40usize {
-        let matches = matches_in_chunks(rt.alloc(), size);
+        let matcher = matcher_of_links(rt.alloc());
+        let matches = matches_in_chunks(rt.alloc(), matcher, AS_WRITTEN, PAGE, size);
         assert!(rt; matches.is_some_and(|matches| matches.as_slice() == MATCHES));
+    }
+    Ok(())
+}
+
+#[test]
+fn coded_links(rt: HostRuntime) -> Result<(), Fail> {
+    let decoded = PageSettings {
+        decoded: true,
+        ..AS_WRITTEN
+    };
+    for size in 1..40usize {
+        let matcher = matcher_of_coded(rt.alloc());
+        let matches = matches_in_chunks(rt.alloc(), matcher, decoded, CODED, size);
+        assert!(rt;
+            matches.is_some_and(|matches| matches.as_slice() == b"1:1 0 1;2:1 3;".as_slice())
+        );
+        let matcher = matcher_of_coded(rt.alloc());
+        let matches = matches_in_chunks(rt.alloc(), matcher, AS_WRITTEN, CODED, size);
+        assert!(rt;
+            matches.is_some_and(|matches| matches.as_slice() == b"1:1 2;2:1 3;".as_slice())
+        );
     }
     Ok(())
 }

@@ -3,7 +3,7 @@
 ghost use Rattle.std.specs.Prelude.{◌<◌};
 
 use lol_base::Namespace;
-use lol_page::{PageReadError, PageReader, PlacedTag};
+use lol_page::{PageReadError, PageReader, PageSettings, PlacedTag};
 use std::alloc::{AllocError, Global};
 use std::test::Fail;
 
@@ -12,6 +12,12 @@ const PAGE: &[u8] =
 
 const TAGS: &[u8] =
     b"1:1h<p a='<'>$2:1s<svg>$2:6s<style>$3:2s<g/>$3:6e</style>$3:14s<desc>$3:20h<xmp>$3:28e</xmp>$3:34h<br>$3:38e</desc>$3:45e</svg>$3:51h<p>$3:54h<xmp>$3:62e</xmp>$";
+
+pub(crate) const AS_WRITTEN: PageSettings = PageSettings {
+    scripting: false,
+    decoded: false,
+    max_tag_bytes: 100,
+};
 
 pub(crate) fn push_number(number: u64, out: &mut Vec<u8>) -> Result<(), AllocError> {
     if number >= 10 {
@@ -58,7 +64,7 @@ fn push_chunk(
 fn tags_in_chunks(alloc: Global, size: usize) -> Result<Vec<u8>, PageReadError>
     requires { 0 < size }
 {
-    let mut reader = PageReader::new(alloc, false, 100);
+    let mut reader = PageReader::new(alloc, AS_WRITTEN);
     let mut out = Vec::new(alloc);
     for chunk in PAGE.chunks(size) {
         push_chunk(&mut reader, chunk, &mut out)?;
@@ -75,6 +81,13 @@ fn cut_in_each_place(rt: HostRuntime) -> Result<(), Fail> {
     Ok(())
 }
 
+fn at_most(max_tag_bytes: u64) -> PageSettings {
+    PageSettings {
+        max_tag_bytes,
+        ..AS_WRITTEN
+    }
+}
+
 // The length of a tag of nine bytes that comes in three chunks.
 fn nine_bytes(reader: &mut PageReader) -> Result<Option<u64>, PageReadError> {
     reader.next(b"<")?;
@@ -88,9 +101,9 @@ fn nine_bytes(reader: &mut PageReader) -> Result<Option<u64>, PageReadError> {
 
 #[test]
 fn limit_of_a_tag(rt: HostRuntime) -> Result<(), Fail> {
-    let mut reader = PageReader::new(rt.alloc(), false, 9);
+    let mut reader = PageReader::new(rt.alloc(), at_most(9));
     assert_eq!(rt; nine_bytes(&mut reader), Ok(Some(9)));
-    let mut reader = PageReader::new(rt.alloc(), false, 8);
+    let mut reader = PageReader::new(rt.alloc(), at_most(8));
     assert_eq!(rt; nine_bytes(&mut reader), Err(PageReadError::TagTooLong));
     assert_eq!(rt; nine_bytes(&mut reader), Err(PageReadError::Failed));
     Ok(())
@@ -109,7 +122,7 @@ fn end_tags_that_close_nothing(rt: HostRuntime) -> Result<(), Fail> {
     for _ in 0..DEEP {
         page.extend_from_slice(b"</x></div>")?;
     }
-    let mut reader = PageReader::new(rt.alloc(), false, 100);
+    let mut reader = PageReader::new(rt.alloc(), AS_WRITTEN);
     let mut out = Vec::new(rt.alloc());
     assert_eq!(rt; push_chunk(&mut reader, &page, &mut out), Ok(()));
     Ok(())

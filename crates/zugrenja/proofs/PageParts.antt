@@ -1,9 +1,8 @@
 -- What one part more adds to what was read of a page.
-use Rattle.std.proofs.Common.{◌≡◌, ℕ, ◌+◌, ◌-◌, ◌≤◌, Bool, true, List, [], ◌∷◌, ◌++◌, Option, Some, None, length, take, drop, refl, sym, subst, ◌∙◌, ap, arith, add_assoc, append_assoc, length-append, length-drop}
+use Rattle.std.proofs.Common.{◌≡◌, ℕ, ◌+◌, ◌-◌, ◌≤◌, Bool, true, List, [], ◌∷◌, ◌++◌, Option, length, take, drop, refl, sym, subst, ◌∙◌, ap, arith, add_assoc, append_assoc, length-append, length-drop}
 use Rattle.std.specs.List.{flat_map}
 use Rattle.std.specs.Io.KnownBytes.{Appends, Consumes}
 use Rattle.std.proofs.KnownBytes.{Appends-trans, Consumes-trans}
-use Rattle.std.proofs.Math.Seq.{take-add}
 use Rattle.std.proofs.lemmas.List.{append-nil, take_rest}
 use Rattle.lol_program.specs.declared.ast.Ast.{Ast}
 use Rattle.lol_machine.specs.Views.{selectors}
@@ -55,5 +54,6 @@ pub consumed_all : (a b c : Option (List ℕ)) (bytes more : List ℕ) (taken : 
 consumed_all a b c bytes more taken before now none =
     subst (Consumes a c) (append-nil bytes) (Consumes-trans a b c bytes [] before (subst (λ (n : ℕ). Consumes b c (take n more)) none now))
 
-pub fresh_matches : (p : Page (Unit {0})) (ast : Ast) (esi : Bool) (bytes : List ℕ) → p.reader.page ≡ fresh_page true → p.matcher.told ≡ told_nothing ast esi → matches_in p bytes ≡ page_matches (selectors ast) esi true bytes
-fresh_matches p ast esi bytes fresh told = λ i. matches_told (told i) (page_tags_from (fresh i) bytes)
+pub fresh_matches : (p : Page (Unit {0})) (ast : Ast) (esi decoded : Bool) (bytes : List ℕ) → p.reader.page ≡ fresh_page true decoded → p.matcher.told ≡ told_nothing ast esi
+    → matches_in p bytes ≡ page_matches (selectors ast) esi true decoded bytes
+fresh_matches p ast esi decoded bytes fresh told = λ i. matches_told (fresh i).decoded (told i) (page_tags_from (fresh i) bytes)

@@ -9,8 +9,8 @@ use Rattle.lol_instructions.specs.Attributes.{value_among}
 use Rattle.lol_memory.specs.declared.match_info.MatchInfo.{MatchInfo}
 use Rattle.lol_machine.specs.Answers.{Match}
 use Rattle.lol_machine.specs.Views.{match_of}
-use Rattle.lol_tags.specs.Attributes.{attributes_of}
 use Rattle.lol_page.specs.PageTags.{PageTag}
+use Rattle.lol_page.specs.Pages.{attributes_read}
 use Rattle.lol_page.specs.Readings.{with_text}
 use Rattle.lol_page.specs.declared.page_reader.PlacedTag.{PlacedTag}
 use Rattle.lol_page_matcher.specs.PageMatches.{PageMatch}
@@ -60,9 +60,9 @@ numbers_part numbered matched = if numbered then numbers matched ++ codes ": " e
 abbrev pub in_one_line : List ℕ → List ℕ
 in_one_line text = map (λ b. if b == line_feed || b == carriage_return then byte " " else b) text
 
--- the value of the attribute of a name of a tag
-abbrev pub value_of : List ℕ → PageTag → Option (List ℕ)
-value_of name tag = value_among (lowercased name) (attributes_of tag.text (tag.tag.name_end - tag.tag.start))
+-- the value of the attribute of a name of a tag, decoded or as it is written
+abbrev pub value_of : Bool → List ℕ → PageTag → Option (List ℕ)
+value_of decoded name tag = value_among (lowercased name) (attributes_read decoded tag.text (tag.tag.name_end - tag.tag.start))
 
 -- the members of a JSON object, each with a comma
 abbrev pub page_member : Option (List ℕ) → List ℕ
@@ -107,7 +107,7 @@ line_in Tags style m = text_line (prefix_of style) style.numbered m.tag.line m.t
 line_in Ids style m = numbers_line (prefix_of style) m.tag.line m.tag.column m.matched
 line_in Count style m = []
 line_in Json style m = json_line (page_of style) m
-line_in (Attribute name) style m = value_line (prefix_of style) style.numbered m.tag.line m.tag.column m.matched (value_of (string_bytes name) m.tag)
+line_in (Attribute name) style m = value_line (prefix_of style) style.numbered m.tag.line m.tag.column m.matched (value_of style.decoded (string_bytes name) m.tag)
 
 -- the line of a match, which has its line feed
 unfoldable pub line_of : Style → PageMatch → List ℕ

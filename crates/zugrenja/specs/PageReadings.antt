@@ -15,7 +15,7 @@ told_nothing ast esi = record { ast = ast; esi = esi; events = []; asked = None 
 
 -- the matches in bytes that come now
 abbrev pub matches_in : Page (Unit {0}) → List ℕ → List PageMatch
-matches_in page bytes = matches_told page.matcher.told (page_tags_from page.reader.page bytes)
+matches_in page bytes = matches_told page.reader.page.decoded page.matcher.told (page_tags_from page.reader.page bytes)
 
 -- Bytes were read to their end, the lines of their matches were written and nothing else, and so many they are. `unread` and `left` are what
 -- a reader had and has, `held` and `holds` what a writer held and holds.

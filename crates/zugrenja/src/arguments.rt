@@ -23,6 +23,8 @@ pub enum Output {
 #[derive(Drop)]
 pub struct Settings {
     pub output: Output,
+    /// Whether the values of attributes are decoded.
+    pub decoded: bool,
     /// The files of selectors, by name.
     pub files: Vec<String>,
     pub selectors: Vec<String>,
@@ -102,6 +104,7 @@ impl Arguments {
             alloc,
             settings: Settings {
                 output: Output::Tags,
+                decoded: true,
                 files: Vec::new(alloc),
                 selectors: Vec::new(alloc),
                 pages: Vec::new(alloc),
@@ -127,6 +130,7 @@ impl Arguments {
             "--" => self.wanted = Wanted::Page,
             "-h" | "--help" => self.help = true,
             "--as-written" => {}
+            "--raw" => self.settings.decoded = false,
             "--ids" => return self.set_output(Output::Ids, argument),
             "--count" => return self.set_output(Output::Count, argument),
             "--json" => return self.set_output(Output::Json, argument),

@@ -7,6 +7,7 @@ ghost use Rattle.lol_base.specs.Names.{lowercased};
 ghost use Rattle.lol_base.specs.StartTags.{OutlineIsInside, attribute_of};
 ghost use Rattle.lol_instructions.specs.Attributes.{value_among};
 ghost use Rattle.lol_page.specs.Readings.{with_text};
+ghost use Rattle.lol_page.specs.ValueLaws.{value_read};
 ghost use Rattle.lol_machine.specs.Views.{match_of};
 ghost use Rattle.zugrenja.specs.Json.{json_byte, json_string};
 ghost use Rattle.zugrenja.specs.Lines.{count_line, end_of, in_one_line, json_line, later_number, line_of, match_at, number_member, numbers, numbers_line, numbers_part, page_member, page_of, place, place_members, prefix_of, selectors_member, tag_member, text_line, value_line, value_of};
@@ -16,6 +17,7 @@ use itoa::Buffer;
 use lol_base::{AttributeOutline, LocalName};
 use lol_matcher::MatchInfo;
 use lol_page::PlacedTag;
+use lol_references::{append_decoded, has_ampersand};
 use lol_tags::push_outlines;
 use std::alloc::AllocError;
 
@@ -23,6 +25,8 @@ use std::alloc::AllocError;
 #[derive(Drop)]
 pub struct Style {
     pub output: Output,
+    /// Whether the values of attributes are decoded, before they are matched and where they are written.
+    pub decoded: bool,
     /// Whether the numbers of the selectors stand before the tags.
     pub numbered: bool,
     /// Whether the page's name stands before each line.
@@ -122,11 +126,31 @@ impl Style {
     ) -> Result<(), AllocError>
         ensures { OnOk result (lines.new.items
             ≡ lines.old.items ++ value_line (prefix_of self.now) self.now.numbered placed.now.line placed.now.column
-            (map match_of matches.now) (value_of name.now (with_text text.now placed.now))) }
+            (map match_of matches.now) (value_of self.now.decoded name.now (with_text text.now placed.now))) }
     {
         let mut outlines = Vec::new(*lines.allocator());
         push_outlines(text, placed.name_end(), &mut outlines)?;
-        match find_value(text, &outlines, name) {
+        self.push_read(placed, find_value(text, &outlines, name), matches, lines)
+    }
+
+    /// Adds the line of a value, if there is one, decoded or as it is written.
+    fn push_read(
+        &self,
+        placed: &PlacedTag,
+        value: Option<&[u8]>,
+        matches: &[MatchInfo],
+        lines: &mut Vec<u8>,
+    ) -> Result<(), AllocError>
+        ensures { OnOk result (lines.new.items
+            ≡ lines.old.items ++ value_line (prefix_of self.now) self.now.numbered placed.now.line placed.now.column
+            (map match_of matches.now) (value_read self.now.decoded (option_copied value.entry))) }
+    {
+        match value {
+            Some(value) if self.decoded && has_ampersand(value) => {
+                let mut decoded = Vec::new(*lines.allocator());
+                append_decoded(value, &mut decoded)?;
+                self.push_text(placed, &decoded, matches, lines)
+            }
             Some(value) => self.push_text(placed, value, matches, lines),
             None => Ok(()),
         }

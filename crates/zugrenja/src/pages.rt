@@ -9,7 +9,7 @@ ghost use Rattle.zugrenja.specs.PageReadings.{WritesPage, matches_in, told_nothi
 
 use crate::lines::Style;
 use lol_matcher::Matcher;
-use lol_page::PageReadError;
+use lol_page::{PageReadError, PageSettings};
 use lol_page_matcher::{Page, PageError};
 use std::alloc::Global;
 use std::io;
@@ -18,9 +18,6 @@ use thiserror::Error;
 
 /// The most bytes that are read at a time.
 const CHUNK_BYTES: usize = 65_536;
-
-/// The most bytes of a tag.
-const MAX_TAG_BYTES: u64 = 1_048_576;
 
 /// Why a page's matches weren't written.
 #[derive(Debug, Drop, Error)]
@@ -52,10 +49,15 @@ pub fn write_page<R: Read, W: Write>(
     writer: &mut W,
 ) -> Result<u64, PageFault>
     requires { matcher.told ≡ told_nothing matcher.told.ast matcher.told.esi }
-    ensures { IfOk result (WritesPage style.now (page_matches (selectors matcher.told.ast) matcher.told.esi true)
+    ensures { IfOk result (WritesPage style.now
+        (page_matches (selectors matcher.told.ast) matcher.told.esi true style.now.decoded)
         (R.remaining reader.old) (R.remaining reader.new) (W.contents writer.old) (W.contents writer.new)) }
 {
-    let mut page = Page::new(alloc, matcher, true, MAX_TAG_BYTES);
+    let settings = PageSettings {
+        decoded: style.decoded,
+        ..PageSettings::default()
+    };
+    let mut page = Page::new(alloc, matcher, settings);
     let Ok(mut buffer) = vec![in alloc; 0u8; CHUNK_BYTES] else {
         return Err(NO_MEMORY);
     };

@@ -15,6 +15,7 @@ use std::{fs, io};
 pub fn search<R: Files + Input + Print + Eprint + AllocGlobal>(rt: &R, settings: Settings) -> u8 {
     let Settings {
         output,
+        decoded,
         files,
         selectors: given,
         pages,
@@ -24,6 +25,7 @@ pub fn search<R: Files + Input + Print + Eprint + AllocGlobal>(rt: &R, settings:
     };
     let mut style = Style {
         output,
+        decoded,
         numbered: selectors.len() > 1,
         named: pages.len() > 1,
         page: None,

@@ -24,15 +24,20 @@ fn written(
     page: Option<String>,
     selectors: &[&str],
 ) -> Option<Vec<u8>> {
-    let matcher = build_matcher(alloc, &strings(alloc, selectors).ok()?).ok()?;
     let style = Style {
         output,
+        decoded: true,
         numbered: selectors.len() > 1,
         named: page.is_some(),
         page,
     };
+    searched(alloc, &style, selectors, PAGE)
+}
+
+fn searched(alloc: Global, style: &Style, selectors: &[&str], page: &[u8]) -> Option<Vec<u8>> {
+    let matcher = build_matcher(alloc, &strings(alloc, selectors).ok()?).ok()?;
     let mut lines = Vec::new(alloc);
-    write_page(alloc, matcher, &style, &mut &*PAGE, &mut lines).ok()?;
+    write_page(alloc, matcher, style, &mut &*page, &mut lines).ok()?;
     Some(lines)
 }
 
@@ -114,6 +119,35 @@ fn other_forms(rt: HostRuntime) -> Result<(), Fail> {
     Ok(())
 }
 
+fn coded_value(alloc: Global, decoded: bool, selector: &str) -> Option<Vec<u8>> {
+    let style = Style {
+        output: Output::Attribute(String::from_str(alloc, "href").ok()?),
+        decoded,
+        numbered: false,
+        named: false,
+        page: None,
+    };
+    searched(alloc, &style, &[selector], b"<a href='?b&amp;c'>")
+}
+
+#[test]
+fn coded_values(rt: HostRuntime) -> Result<(), Fail> {
+    let alloc = rt.alloc();
+    for (decoded, selector, line) in [
+        (true, "[href='?b&c']", "1:1: ?b&c\n"),
+        (false, "[href='?b&amp;c']", "1:1: ?b&amp;c\n"),
+        (true, "[href='?b&amp;c']", ""),
+        (false, "[href='?b&c']", ""),
+    ] {
+        let written = coded_value(alloc, decoded, selector);
+        assert!(rt; written.is_some_and(|written| written.as_slice() == line.as_bytes()));
+    }
+    assert!(rt;
+        matches!(asked(alloc, &["a", "--raw"]), Ok(Asked::Search(settings)) if !settings.decoded)
+    );
+    Ok(())
+}
+
 fn asked(alloc: Global, texts: &[&str]) -> Result<Asked, ArgumentError> {
     read_arguments(alloc, strings(alloc, texts)?.into_iter())
 }
@@ -128,6 +162,7 @@ fn arguments(rt: HostRuntime) -> Result<(), Fail> {
         return Err(Fail::from("refused"));
     };
     assert!(rt; settings.output == Output::Attribute(String::from_str(alloc, "--")?));
+    assert!(rt; settings.decoded);
     assert!(rt; settings.files == strings(alloc, &["-h"])?);
     assert!(rt; settings.selectors == strings(alloc, &["a", "b"])?);
     assert!(rt; settings.pages == strings(alloc, &["-f", "--"])?);

@@ -15,10 +15,10 @@ pub returns-in_default-clause-after : goal.returns-in_default-clause-after
 returns-in_default-clause-after c =
     let inside = c.self.inside in
     let part = take c.in-Ok.read.taken c.args.chunk.now in
-    let p = page_of inside.tags inside.elements in
+    let p = page_of inside.decoded inside.tags inside.elements in
     let is : p ≡ c.args.self.now.page = ap (λ (r : Reading). r.page) c.self.view_is in
     let none : [] ≡ tags_from p.reader part = ap (λ (o : Option Tag). with_some o []) (sym c.in_default.is) ∙ c.in-Ok.ensures.tags in
-    next-none p (page_of c.next.new.self inside.elements) part
+    next-none p (page_of inside.decoded c.next.new.self inside.elements) part
     (read-page p c.next.new.self.reader c.next.new.self.past.read part c.in-Ok.ensures.after c.in-Ok.ensures.read) none
     ∙ ap (λ (q : Page). page_after q part) is
 
@@ -26,7 +26,7 @@ pub returns-in_default-clause-tags : goal.returns-in_default-clause-tags
 returns-in_default-clause-tags c =
     let inside = c.self.inside in
     let part = take c.in-Ok.read.taken c.args.chunk.now in
-    let p = page_of inside.tags inside.elements in
+    let p = page_of inside.decoded inside.tags inside.elements in
     let is : p ≡ c.args.self.now.page = ap (λ (r : Reading). r.page) c.self.view_is in
     let none : [] ≡ tags_from p.reader part = ap (λ (o : Option Tag). with_some o []) (sym c.in_default.is) ∙ c.in-Ok.ensures.tags in
     sym (quiet-tags p part (sym none)) ∙ ap (λ (q : Page). page_tags_from q part) is
@@ -34,19 +34,19 @@ returns-in_default-clause-tags c =
 pub returns-in_default-clause-short : goal.returns-in_default-clause-short
 returns-in_default-clause-short c = λ l.
     let limit : c.self.inside.tags.limit ≡ c.args.self.now.limit = ap (λ (r : Reading). r.limit) c.self.view_is in
-    let is : page_of c.self.inside.tags c.self.inside.elements ≡ c.args.self.now.page = ap (λ (r : Reading). r.page) c.self.view_is in
+    let is : page_of c.self.inside.decoded c.self.inside.tags c.self.inside.elements ≡ c.args.self.now.page = ap (λ (r : Reading). r.page) c.self.view_is in
     let kept = (c.self.invariant c.if-self.false).0 in
-    c.in-Ok.ensures.short (short-page c.self.inside.tags.limit (page_of c.self.inside.tags c.self.inside.elements) c.args.chunk.now kept.read.at
-    (subst (λ (n : ℕ). FirstIsLonger n (page_tags_from (page_of c.self.inside.tags c.self.inside.elements) c.args.chunk.now)) (sym limit)
+    c.in-Ok.ensures.short (short-page c.self.inside.tags.limit (page_of c.self.inside.decoded c.self.inside.tags c.self.inside.elements) c.args.chunk.now kept.read.at
+    (subst (λ (n : ℕ). FirstIsLonger n (page_tags_from (page_of c.self.inside.decoded c.self.inside.tags c.self.inside.elements) c.args.chunk.now)) (sym limit)
     (subst (λ (p : Page). FirstIsLonger c.args.self.now.limit (page_tags_from p c.args.chunk.now)) (sym is) l)))
 
 pub returns-in-Ok-take_tag-clause-short : goal.returns-in-Ok-take_tag-clause-short
 returns-in-Ok-take_tag-clause-short c = λ l.
     let limit : c.self.inside.tags.limit ≡ c.args.self.now.limit = ap (λ (r : Reading). r.limit) c.self.view_is in
-    let is : page_of c.self.inside.tags c.self.inside.elements ≡ c.args.self.now.page = ap (λ (r : Reading). r.page) c.self.view_is in
+    let is : page_of c.self.inside.decoded c.self.inside.tags c.self.inside.elements ≡ c.args.self.now.page = ap (λ (r : Reading). r.page) c.self.view_is in
     let kept = (c.self.invariant c.if-self.false).0 in
-    c.in-Ok.ensures.short (short-page c.self.inside.tags.limit (page_of c.self.inside.tags c.self.inside.elements) c.args.chunk.now kept.read.at
-    (subst (λ (n : ℕ). FirstIsLonger n (page_tags_from (page_of c.self.inside.tags c.self.inside.elements) c.args.chunk.now)) (sym limit)
+    c.in-Ok.ensures.short (short-page c.self.inside.tags.limit (page_of c.self.inside.decoded c.self.inside.tags c.self.inside.elements) c.args.chunk.now kept.read.at
+    (subst (λ (n : ℕ). FirstIsLonger n (page_tags_from (page_of c.self.inside.decoded c.self.inside.tags c.self.inside.elements) c.args.chunk.now)) (sym limit)
     (subst (λ (p : Page). FirstIsLonger c.args.self.now.limit (page_tags_from p c.args.chunk.now)) (sym is) l)))
 
 pub returns-in_default-clause-tag_too_long : goal.returns-in_default-clause-tag_too_long
@@ -55,10 +55,10 @@ returns-in_default-clause-tag_too_long c = (
   (λ h. absurd (
       let l = h.2 in
       let limit : c.self.inside.tags.limit ≡ c.args.self.now.limit = ap (λ (r : Reading). r.limit) c.self.view_is in
-      let is : page_of c.self.inside.tags c.self.inside.elements ≡ c.args.self.now.page = ap (λ (r : Reading). r.page) c.self.view_is in
+      let is : page_of c.self.inside.decoded c.self.inside.tags c.self.inside.elements ≡ c.args.self.now.page = ap (λ (r : Reading). r.page) c.self.view_is in
       let kept = (c.self.invariant c.if-self.false).0 in
-      c.in-Ok.ensures.short (short-page c.self.inside.tags.limit (page_of c.self.inside.tags c.self.inside.elements) c.args.chunk.now kept.read.at
-      (subst (λ (n : ℕ). FirstIsLonger n (page_tags_from (page_of c.self.inside.tags c.self.inside.elements) c.args.chunk.now)) (sym limit)
+      c.in-Ok.ensures.short (short-page c.self.inside.tags.limit (page_of c.self.inside.decoded c.self.inside.tags c.self.inside.elements) c.args.chunk.now kept.read.at
+      (subst (λ (n : ℕ). FirstIsLonger n (page_tags_from (page_of c.self.inside.decoded c.self.inside.tags c.self.inside.elements) c.args.chunk.now)) (sym limit)
       (subst (λ (p : Page). FirstIsLonger c.args.self.now.limit (page_tags_from p c.args.chunk.now)) (sym is) l))))),
 )
 
@@ -68,10 +68,10 @@ returns-in-Ok-take_tag-clause-tag_too_long c = (
   (λ h. absurd (
       let l = h.2 in
       let limit : c.self.inside.tags.limit ≡ c.args.self.now.limit = ap (λ (r : Reading). r.limit) c.self.view_is in
-      let is : page_of c.self.inside.tags c.self.inside.elements ≡ c.args.self.now.page = ap (λ (r : Reading). r.page) c.self.view_is in
+      let is : page_of c.self.inside.decoded c.self.inside.tags c.self.inside.elements ≡ c.args.self.now.page = ap (λ (r : Reading). r.page) c.self.view_is in
       let kept = (c.self.invariant c.if-self.false).0 in
-      c.in-Ok.ensures.short (short-page c.self.inside.tags.limit (page_of c.self.inside.tags c.self.inside.elements) c.args.chunk.now kept.read.at
-      (subst (λ (n : ℕ). FirstIsLonger n (page_tags_from (page_of c.self.inside.tags c.self.inside.elements) c.args.chunk.now)) (sym limit)
+      c.in-Ok.ensures.short (short-page c.self.inside.tags.limit (page_of c.self.inside.decoded c.self.inside.tags c.self.inside.elements) c.args.chunk.now kept.read.at
+      (subst (λ (n : ℕ). FirstIsLonger n (page_tags_from (page_of c.self.inside.decoded c.self.inside.tags c.self.inside.elements) c.args.chunk.now)) (sym limit)
       (subst (λ (p : Page). FirstIsLonger c.args.self.now.limit (page_tags_from p c.args.chunk.now)) (sym is) l))))),
 )
 
@@ -81,10 +81,10 @@ returns-in-Err-take_tag-clause-tag_too_long c = (
   (λ h. absurd (
       let l = h.2 in
       let limit : c.self.inside.tags.limit ≡ c.args.self.now.limit = ap (λ (r : Reading). r.limit) c.self.view_is in
-      let is : page_of c.self.inside.tags c.self.inside.elements ≡ c.args.self.now.page = ap (λ (r : Reading). r.page) c.self.view_is in
+      let is : page_of c.self.inside.decoded c.self.inside.tags c.self.inside.elements ≡ c.args.self.now.page = ap (λ (r : Reading). r.page) c.self.view_is in
       let kept = (c.self.invariant c.if-self.false).0 in
-      c.in-Ok.ensures.short (short-page c.self.inside.tags.limit (page_of c.self.inside.tags c.self.inside.elements) c.args.chunk.now kept.read.at
-      (subst (λ (n : ℕ). FirstIsLonger n (page_tags_from (page_of c.self.inside.tags c.self.inside.elements) c.args.chunk.now)) (sym limit)
+      c.in-Ok.ensures.short (short-page c.self.inside.tags.limit (page_of c.self.inside.decoded c.self.inside.tags c.self.inside.elements) c.args.chunk.now kept.read.at
+      (subst (λ (n : ℕ). FirstIsLonger n (page_tags_from (page_of c.self.inside.decoded c.self.inside.tags c.self.inside.elements) c.args.chunk.now)) (sym limit)
       (subst (λ (p : Page). FirstIsLonger c.args.self.now.limit (page_tags_from p c.args.chunk.now)) (sym is) l))))),
 )
 
@@ -92,11 +92,11 @@ pub returns-in-Ok-take_tag-clause-after : goal.returns-in-Ok-take_tag-clause-aft
 returns-in-Ok-take_tag-clause-after c =
     let inside = c.self.inside in
     let part = take c.in-Ok.read.taken c.args.chunk.now in
-    let p = page_of inside.tags inside.elements in
+    let p = page_of inside.decoded inside.tags inside.elements in
     let is : p ≡ c.args.self.now.page = ap (λ (r : Reading). r.page) c.self.view_is in
     let tag = c.in-Some.tag in
     let some : tag ∷ [] ≡ tags_from p.reader part = ap (λ (o : Option Tag). with_some o []) (sym c.in-Some.is) ∙ c.in-Ok.ensures.tags in
-    next-some p (page_of c.next.new.self inside.elements) (page_of c.take_tag.new.tags c.take_tag.new.elements) part tag
+    next-some p (page_of inside.decoded c.next.new.self inside.elements) (page_of inside.decoded c.take_tag.new.tags c.take_tag.new.elements) part tag
     (read-page p c.next.new.self.reader c.next.new.self.past.read part c.in-Ok.ensures.after c.in-Ok.ensures.read) some
     ((subst (λ (o : Option Tag). IfSome o (HoldsTag c.next.new.self)) c.in-Some.is c.in-Ok.ensures.holds).last ∙ ap (λ (r : TagReader). r.at) c.in-Ok.ensures.after)
     c.in-Ok-take_tag.ensures.page
@@ -106,11 +106,11 @@ pub returns-in-Ok-take_tag-clause-tags : goal.returns-in-Ok-take_tag-clause-tags
 returns-in-Ok-take_tag-clause-tags c =
     let inside = c.self.inside in
     let part = take c.in-Ok.read.taken c.args.chunk.now in
-    let p = page_of inside.tags inside.elements in
+    let p = page_of inside.decoded inside.tags inside.elements in
     let is : p ≡ c.args.self.now.page = ap (λ (r : Reading). r.page) c.self.view_is in
     let tag = c.in-Some.tag in
     let some : tag ∷ [] ≡ tags_from p.reader part = ap (λ (o : Option Tag). with_some o []) (sym c.in-Some.is) ∙ c.in-Ok.ensures.tags in
-    next-tag p (page_of c.next.new.self inside.elements) part tag _
+    next-tag p (page_of inside.decoded c.next.new.self inside.elements) part tag _
     (read-page p c.next.new.self.reader c.next.new.self.past.read part c.in-Ok.ensures.after c.in-Ok.ensures.read) some
     ((subst (λ (o : Option Tag). IfSome o (HoldsTag c.next.new.self)) c.in-Some.is c.in-Ok.ensures.holds).last ∙ ap (λ (r : TagReader). r.at) c.in-Ok.ensures.after)
     c.in-Ok-take_tag.ensures.tag
@@ -120,7 +120,7 @@ pub returns-in-Err-clause-tag_too_long : goal.returns-in-Err-clause-tag_too_long
 returns-in-Err-clause-tag_too_long c =
     let tags = c.self.inside.tags in
     let chunk = c.args.chunk.now in
-    let p = page_of tags c.self.inside.elements in
+    let p = page_of c.self.inside.decoded tags c.self.inside.elements in
     let error = c.in-Err.error in
     let limit : tags.limit ≡ c.args.self.now.limit = ap (λ (r : Reading). r.limit) c.self.view_is in
     let is : p ≡ c.args.self.now.page = ap (λ (r : Reading). r.page) c.self.view_is in

@@ -8,7 +8,7 @@ invariant-loop-i g l = record {
   within : l.i ≤ length l.chunk;
   goes_on : l.self.failed ≡ false;
   read : ReadsOn l.fn.self l.self (take l.i l.chunk);
-  none : matches_told l.fn.self.matcher.told (page_tags_from l.fn.self.reader.page (take l.i l.chunk)) ≡ [];
+  none : matches_told l.fn.self.reader.page.decoded l.fn.self.matcher.told (page_tags_from l.fn.self.reader.page (take l.i l.chunk)) ≡ [];
 }
 
 abbrev pub decreases-loop-i : goal.decreases-loop-i
