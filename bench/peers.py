@@ -1,6 +1,6 @@
-"""Measures a page and 10, 100 and 1,000 selectors through lol_match and through engines that Debian packages.
+"""Measures a page and 10, 100 and 1,000 selectors through zugrenja, lol_match and engines that Debian packages.
 
-    python3 bench/peers.py [--port PROGRAM] [--page FILE] [--counts 10,100,..] [--runs N] [--record]
+    python3 bench/peers.py [--port PROGRAM] [--bytes PROGRAM] [--page FILE] [--counts 10,100,..] [--runs N] [--record]
 
 Each engine reads and searches in its usual way.
 """
@@ -21,6 +21,7 @@ from workloads import script
 
 PAGE = "/usr/share/doc/valgrind/html/mc-manual.html"  # of the package valgrind
 PAGES = 20
+ZUGRENJA = TOP / "crates" / "zugrenja" / "out" / "zugrenja"
 NODE = {"NODE_PATH": "/usr/share/nodejs"}
 ENGINES = {
     "cssselect": (["/usr/bin/python3", "with_cssselect.py"], ["python3-cssselect", "python3-lxml"]),
@@ -74,6 +75,33 @@ def lol_match(program, page, selectors, runs):
     return {"parse": parse, "first": once, "later": (often - once) / (PAGES - 1), "found": found}
 
 
+def zugrenja(program, page, selectors, runs):
+    """From bytes to matches: a run with the page once, and what each further page takes; no page is read apart from its search."""
+    if not program.exists():
+        print(f"zugrenja is left out: {program} isn't there (rt run < /dev/null in crates/zugrenja)", file=sys.stderr)
+        return None
+    text = pathlib.Path(page).read_bytes()
+    with tempfile.NamedTemporaryFile("w", encoding="utf-8") as file:
+        file.write("\n".join(selectors) + "\n")
+        file.flush()
+        words = [str(program), "--ids", "-f", file.name]
+        once, written = time_of(words, text, runs)
+        often, _ = time_of(words, text * PAGES, runs)
+    found = sum(line.count(b",") + 1 for line in written.splitlines())
+    return {"parse": 0, "first": once, "later": (often - once) / (PAGES - 1), "found": found}
+
+
+def modest(page, selectors, runs):
+    """What bench/engines/modest.c prints, or nothing where its compiler or library isn't there."""
+    with tempfile.TemporaryDirectory() as folder:
+        program, source = os.path.join(folder, "modest"), TOP / "bench" / "engines" / "modest.c"
+        words = ["cc", "-O2", "-o", program, source, "-lmodest", "-lm"]
+        if not shutil.which("cc") or subprocess.run(words, stderr=subprocess.DEVNULL, check=False).returncode:
+            print("Modest is left out: are gcc, libmodest-dev there?", file=sys.stderr)
+            return None
+        return ran([program], page, selectors, runs)
+
+
 def pup(page, selectors, runs):
     """pup's whole run with all selectors, less one with a selector that nothing matches."""
     def whole(text):
@@ -97,35 +125,42 @@ def timed(words, file):
 def engine(name, page, selectors, runs):
     """What the engine's program in bench/engines prints, or nothing where its packages aren't there."""
     words, packages = ENGINES[name]
+    figures = ran(words, page, selectors, runs)
+    if figures is None:
+        print(f"{name} is left out: are {', '.join(packages)} there?", file=sys.stderr)
+    return figures
+
+
+def ran(words, page, selectors, runs):
+    """What a program prints for a page, a file of selectors and a number of runs, or nothing where it fails."""
     with tempfile.NamedTemporaryFile("w", encoding="utf-8") as file:
         file.write("\n".join(selectors) + "\n")
         file.flush()
         done = subprocess.run([*words, page, file.name, str(runs)], cwd=TOP / "bench" / "engines",
                               stdout=subprocess.PIPE, stderr=subprocess.DEVNULL, env={**os.environ, **NODE}, check=False)
-    if done.returncode:
-        print(f"{name} is left out: are {', '.join(packages)} there?", file=sys.stderr)
-        return None
-    return json.loads(done.stdout)
+    return None if done.returncode else json.loads(done.stdout)
 
 
 def versions():
     """The versions of the packages that are there."""
-    packages = sorted({package for _, listed in ENGINES.values() for package in listed} | {"pup", "valgrind"})
+    packages = sorted({package for _, listed in ENGINES.values() for package in listed} | {"libmodest-dev", "pup", "valgrind"})
     words = ["dpkg-query", "-W", "-f", "${Package} ${Version}\n", *packages]
     return subprocess.run(words, stdout=subprocess.PIPE, stderr=subprocess.DEVNULL, check=False).stdout.decode().splitlines()
 
 
-def said(name, count, figures, tags):
+def said(name, count, figures, tags, size):
     later = figures["later"]
     return (f"{name:11} {count:5d} selectors: page {figures['parse'] * 1e3:7.1f} ms, first {figures['first'] * 1e3:8.1f} ms,"
             f" later {later * 1e3:8.1f} ms: {tags / later:11,.0f} tags a second, {1 / later:7.1f} pages a second,"
-            f" {1 / (later + figures['parse']):6.1f} with the page read; {figures['found'] or '?'} found")
+            f" {1 / (later + figures['parse']):6.1f} and {size / 1e6 / (later + figures['parse']):6.1f} MB/s with the page read;"
+            f" {figures['found'] or '?'} found")
 
 
-def measured(program, page, selectors, runs):
+def measured(program, from_bytes, page, selectors, runs):
     """The figures of each engine that is there."""
-    figures = {"lol_match": lol_match(program, page, selectors, runs)}
+    figures = {"zugrenja": zugrenja(from_bytes, page, selectors, runs), "lol_match": lol_match(program, page, selectors, runs)}
     figures |= {name: engine(name, page, selectors, runs) for name in ENGINES}
+    figures["Modest"] = modest(page, selectors, runs)
     figures["pup"] = pup(page, selectors, runs) if shutil.which("pup") else None
     return {name: one for name, one in figures.items() if one}
 
@@ -141,6 +176,7 @@ def record(conditions, page, tags, rows):
 def main():
     words = argparse.ArgumentParser(description=__doc__.split("\n", maxsplit=1)[0])
     words.add_argument("--port", help="the program (crates/lol_match/out/lol_match, built if it isn't there)")
+    words.add_argument("--bytes", type=pathlib.Path, default=ZUGRENJA, help="the program from bytes to matches")
     words.add_argument("--page", default=PAGE, help=f"a page of HTML ({PAGE}, of the package valgrind)")
     words.add_argument("--counts", default="10,100,1000", help="numbers of selectors")
     words.add_argument("--runs", type=int, default=5)
@@ -152,8 +188,8 @@ def main():
     print(", ".join(f"{name} {value}" for name, value in conditions.items() if value != ""))
     print(f"{asked.page}: {len(html) / 1e3:.0f} kB, {tags} start tags")
     for count in map(int, asked.counts.split(",")):
-        for name, figures in measured(program, asked.page, drawn(html, count), asked.runs).items():
-            print(said(name, count, figures, tags), flush=True)
+        for name, figures in measured(program, asked.bytes.resolve(), asked.page, drawn(html, count), asked.runs).items():
+            print(said(name, count, figures, tags, os.path.getsize(asked.page)), flush=True)
             rounded = {key: value if key == "found" else round(value, 6) for key, value in figures.items()}
             rows.append({"engine": name, "selectors": count, **rounded})
     if asked.record:

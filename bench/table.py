@@ -37,7 +37,7 @@ def peers(recorded):
     lines = [f"| Engine, with {counts} selectors | Page read, ms | First search, ms | Later search, ms |\n", "|---|---|---|---|\n"]
     for engine in engines:
         rows = [row for row in recorded["peers"] if row["engine"] == engine]
-        cells = ["; ".join(f"{row[name] * 1e3:,.1f}" for row in rows) for name in ("parse", "first", "later")]
+        cells = ["; ".join(f"{row[name] * 1e3:,.1f}" for row in rows if row[name]) for name in ("parse", "first", "later")]
         lines.append(f"| {' | '.join([engine, *cells])} |\n")
     return "".join(lines)
 
