@@ -30,7 +30,7 @@ class Drawing:
 
     def __init__(self, seed: int, number: int):
         self.r = random.Random(f"{seed} tags {number}")
-        self.kind = self.r.choice(("tags", "tags", "texts", "texts", "foreign", "foreign", "foreign", "tree"))
+        self.kind = self.r.choice(("tags", "texts", "foreign", "foreign", "states", "states", "states", "tree"))
         self.opened: list[str] = []
 
     def pieces(self) -> list[str]:
@@ -45,6 +45,7 @@ class Drawing:
         kinds = {"tags": (self.tag, self.tag, self.tag, self.end, self.comment, self.text),
                  "texts": (self.raw, self.raw, self.tag, self.comment, self.text, self.end),
                  "foreign": (self.foreign, self.foreign, self.foreign, self.breakout, self.end, self.end, self.comment, self.raw),
+                 "states": (self.states, self.states, self.tag),
                  "tree": (self.tree, self.tree, self.end, self.foreign, self.tag, self.raw)}
         return self.r.choice(kinds[self.kind])()
 
@@ -85,6 +86,19 @@ class Drawing:
         inside = "".join(r.choice(ESCAPES if name.lower() == "script" else TEXTS + COMMENTS + [f"</{name}", f"</{name}x>", f"</ {name}>"])
                          for _ in range(r.choice((0, 1, 2, 4, 7))))
         return f"<{name}{self.attributes()}>{inside}" + r.choice((f"</{name}>", f"</{name.upper()} a=b>", f"</{name}/>", f"</{name}\n>", ""))
+
+    def states(self) -> str:
+        """A text that only its own end leaves, and a tag behind, which tells where that is."""
+        r = self.r
+        name = r.choice(RAW)
+        first, parts, last = r.choice((
+            ("<script>", ESCAPES, "</script>"), ("<script>", ESCAPES, "--></script>"),
+            (f"<{name}>", [f"</{name}", "</", "<", "/", ">", " ", "x", "<!--", "\t", "<x>"], f"</{name}>"),
+            ("<!--", ["-", "--", "!", ">", "<", "<!", "<!-", "<!--", "x", "-!>", "\0"], "-->"),
+            ("<svg><![CDATA[", ["]", "]]", ">", "x", "<x>", "]>"], "]]>"),
+            ("<!DOCTYPE", [" ", "x", "PUBLIC", "system", "\"", "'", ">", "\0", "<x>"], ">")))
+        inside = "".join(r.choice(parts) for _ in range(r.choice((0, 1, 2, 3, 5, 8))))
+        return first + inside + last + r.choice(("<x>", "<x a=b>", "</x><q>"))
 
     def foreign(self) -> str:
         return self.start(self.r.choice(FOREIGN))

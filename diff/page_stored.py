@@ -16,7 +16,7 @@ from page_port import Port, Selectors
 from stored import FOLDER, read_line, written
 
 FILE = os.path.join(FOLDER, "pages.txt")
-DRAWN, WANTED, LONGEST = 6_000, 300, 400
+DRAWN, WANTED, LONGEST = 3_000, 300, 400
 TOGETHER = 25
 POINTS = re.compile(r"</(desc|title|foreignobject|mi|mo|mn|ms|mtext|annotation-xml)>", re.I)
 
