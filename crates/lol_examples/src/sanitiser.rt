@@ -3,11 +3,9 @@
 ghost use Rattle.std.specs.Prelude.{◌≡◌, ◌≤◌, length, IfOk, IsTrue, None};
 
 use lol_matcher::{MatcherBuilder, OpenElement};
+use lol_page::PageSettings;
 use lol_page_matcher::{Page, PageError};
 use std::alloc::{AllocError, Global};
-
-/// A tag of more bytes is refused.
-const MAX_TAG_BYTES: u64 = 65_536;
 
 /// What stays of a page, as far as it was read.
 #[derive(Drop)]
@@ -36,7 +34,7 @@ pub fn sanitised(
         return Err(PageError::Memory);
     };
     let mut sanitiser = Sanitiser {
-        page: Page::new(alloc, matcher, true, MAX_TAG_BYTES),
+        page: Page::new(alloc, matcher, PageSettings::default()),
         open: 0,
         around: None,
         text: Vec::new(alloc),
