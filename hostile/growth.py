@@ -1,9 +1,10 @@
 #!/usr/bin/env python3
-"""Times lol_match on hostile scripts of three sizes each, and prints a table of the growth.
+"""Times lol_match on hostile scripts, and zugrenja on hostile pages, of three sizes each, and prints a table of the growth.
 
-Run it at the top of the repository once lol_match is built:
+Run it at the top of the repository once both are built:
 
     (cd crates/lol_match && rt run < /dev/null)
+    (cd crates/zugrenja && rt run < /dev/null)
     python3 hostile/growth.py [--instructions] [ROW ..]
 
 Each size is twice the one before; the times are processor seconds, the least of three runs. With --instructions there are
@@ -17,7 +18,8 @@ import subprocess
 import sys
 import tempfile
 
-PROGRAM = "crates/lol_match/out/lol_match"
+SCRIPTS = ["crates/lol_match/out/lol_match"]
+PAGES = ["crates/zugrenja/out/zugrenja", "--count", "p", "svg a", "[a='&x']", ":nth-child(2)"]
 RUNS = 3
 
 
@@ -245,25 +247,69 @@ ROWS += [(f"rows: {name}", size, with_rows(make)) for name, size, make in [
     ("open elements that each add a hereditary range", 1_250, hereditary_ranges),
 ]]
 
+# Pages, for zugrenja. A tag of more than 1,048,576 bytes is refused where it ends.
 
-def seconds(path):
+def page(pattern, first="", last=""):
+    """A page that repeats a pattern up to a size in bytes."""
+    return lambda size: first + pattern * (size // len(pattern)) + last
+
+
+def tags_with(pattern):
+    """Tags with a value of 1,000,000 bytes, which repeats a pattern."""
+    value = pattern * (1_000_000 // len(pattern))
+    return page(f"<p a='{value}'>")
+
+
+ROWS += [(f"page: {name}", size, make) for name, size, make in [
+    ("`<`", 25 * MB, page("<")),
+    ("`<a`", 25 * MB, page("<a")),
+    ("`</`", 25 * MB, page("</")),
+    ("quotes in a tag", 25 * MB, page("\"'", "<p ")),
+    ("`<!--`", 25 * MB, page("<!--")),
+    ("`<!`", 25 * MB, page("<!")),
+    ("`--!` in a comment", 25 * MB, page("--!", "<!--")),
+    ("a name that never ends", 25 * MB, page("a", "<a")),
+    ("a tag that never ends", 25 * MB, page("=", "<p a=")),
+    ("attributes of a tag that never ends", 25 * MB, page(" a=b", "<p")),
+    ("distinct attributes of one tag", MB // 8, lambda size: "<p" + "".join(f" a{number:07}" for number in range(size // 9)) + ">"),
+    ("tags `<p a=b>`", 25 * MB // 4, page("<p a=b>")),
+    ("`<p></p>`", 25 * MB // 2, page("<p></p>")),
+    ("nested `<svg>`", 5 * MB // 2, page("<svg>")),
+    ("nested `<svg><desc>` and stray end tags", 5 * MB // 2, page("<svg><desc></svg></p>")),
+    ("`<svg><p>`, which leaves the svg", 5 * MB // 2, page("<svg><p>")),
+    ("`]]` in a CDATA section", 25 * MB, page("]]", "<svg><![CDATA[")),
+    ("`<!--<script>` in a script", 25 * MB, page("<!--<script>", "<script>")),
+    ("`<!--<script></script>-->` in a script", 25 * MB, page("<!--<script></script>-->", "<script>")),
+    ("`</scrip` in a script", 25 * MB, page("</scrip", "<script>")),
+    ("`</title` in a title", 25 * MB, page("</title", "<title>")),
+    ("`&` in values", 25 * MB, tags_with("&")),
+    ("`&No` in values", 25 * MB, tags_with("&No")),
+    ("CRs", 25 * MB, page("\r", last="<p>")),
+]]
+
+
+def program_of(name):
+    return PAGES if name.startswith("page: ") else SCRIPTS
+
+
+def seconds(program, path):
     best = None
     for _ in range(RUNS):
         before = resource.getrusage(resource.RUSAGE_CHILDREN)
         with open(path, "rb") as source:
-            ended = subprocess.run([PROGRAM], stdin=source, stdout=subprocess.DEVNULL, check=False)
+            ended = subprocess.run(program, stdin=source, stdout=subprocess.DEVNULL, check=False)
         after = resource.getrusage(resource.RUSAGE_CHILDREN)
-        if ended.returncode not in (0, 2):
+        if ended.returncode not in (0, 1, 2):
             sys.exit(f"{path}: status {ended.returncode}")
         spent = after.ru_utime + after.ru_stime - before.ru_utime - before.ru_stime
         best = spent if best is None else min(best, spent)
     return best
 
 
-def millions(path):
+def millions(program, path):
     """The instructions of a run by valgrind's callgrind, in millions."""
     with tempfile.TemporaryDirectory() as folder, open(path, "rb") as source:
-        words = ["valgrind", "--tool=callgrind", f"--callgrind-out-file={folder}/out", PROGRAM]
+        words = ["valgrind", "--tool=callgrind", f"--callgrind-out-file={folder}/out", *program]
         ended = subprocess.run(words, stdin=source, stdout=subprocess.DEVNULL, stderr=subprocess.PIPE, check=False)
     return int(re.search(rb"Collected : (\d+)", ended.stderr)[1]) / 1e6
 
@@ -278,9 +324,9 @@ def main(words_wanted, cost):
                 continue
             times = []
             for factor in (1, 2, 4):
-                with open(path, "w", encoding="utf-8") as target:
+                with open(path, "w", encoding="utf-8", newline="\n") as target:
                     target.write(make(size * factor))
-                times.append(cost(path))
+                times.append(cost(program_of(name), path))
             growth = ", ".join(f"{after / max(before, 0.001):.1f}" for before, after in zip(times, times[1:]))
             cells = " | ".join(f"{time:.3f}" for time in times)
             shown = name.replace("|", "\\|")
