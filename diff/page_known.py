@@ -22,6 +22,8 @@ KNOWN = [
     Known("parse5", "it reads `noframes` in the body as any element, its text as tags", has(rb"<noframes")),
     Known("parse5", "from inside HTML, an end tag closes an element of svg or math of its name", has(rb"<(svg|math)\b.*</")),
     Known("html5lib", "`</p>` and `</br>` don't leave svg and math", has(rb"<(svg|math)\b.*</(p|br)\b")),
+    Known("html5lib", "end tags pass `desc` and `title` of svg, and what holds HTML in math",
+          has(rb"<(svg|math)\b.*<(desc|title|mi|mo|mn|ms|mtext|annotation-xml)\b.*</")),
     Known("html5lib", "it has no `template`", has(rb"<template")),
     Known("libgumbo", "it gives a tag behind `</>` the place of that", has(rb"</>")),
     Known("libgumbo", "NUL at the front of a name isn't in the name as written", has(rb"<[^>]*\0")),
