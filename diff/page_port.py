@@ -114,7 +114,7 @@ class Port:
         return found
 
     def lines(self, words: list[str]) -> list[bytes]:
-        done = subprocess.run([self.program, "--json", *words], cwd=self.folder.name, stdout=subprocess.PIPE,
+        done = subprocess.run([self.program, "--raw", "--json", *words], cwd=self.folder.name, stdout=subprocess.PIPE,
                               stdin=subprocess.DEVNULL, stderr=subprocess.PIPE)
         if done.returncode not in (0, 1):
             raise RuntimeError(f"the program ends with {done.returncode}: {done.stderr.decode(errors='replace')}")
@@ -126,7 +126,7 @@ class Port:
         ours, theirs = socket.socketpair(socket.AF_UNIX, socket.SOCK_SEQPACKET)
         with ours, tempfile.TemporaryFile() as written:
             with theirs:
-                words = [self.program, "--json", "-f", "selectors"]
+                words = [self.program, "--raw", "--json", "-f", "selectors"]
                 process = subprocess.Popen(words, cwd=self.folder.name, stdin=theirs, stdout=written)
             try:
                 for start in range(0, len(page), size):
