@@ -115,7 +115,8 @@ impl<T: Drop> Page<T> {
         ensures read { IfOk result (λ read. ReadsOn self.old self.new (take read.taken chunk.now)) }
         ensures found { IfOk result (λ read.
             with_some (match_read self.new.reader.text self.new.matcher.matched read.tag) []
-            ≡ matches_told self.old.reader.page.decoded self.old.matcher.told (page_tags_from self.old.reader.page (take read.taken chunk.now))) }
+            ≡ matches_told self.old.reader.page.decoded self.old.matcher.told
+            (page_tags_from self.old.reader.page (take read.taken chunk.now))) }
         ensures whole { IfOk result (λ read. IfNone read.tag (read.taken ≡ length chunk.now)) }
         ensures goes_on { OnOk result (self.new.failed ≡ false) }
         ensures failed { (result ≡ Err PageError.Failed) ↔ (self.old.failed ≡ true) }
@@ -150,7 +151,8 @@ impl<T: Drop> Page<T> {
         ensures read { IfOk result (λ read. ReadsOn self.old self.new (take read.taken rest.now)) }
         ensures found { IfOk result (λ read.
             with_some (match_read self.new.reader.text self.new.matcher.matched read.tag) []
-            ≡ matches_told self.old.reader.page.decoded self.old.matcher.told (page_tags_from self.old.reader.page (take read.taken rest.now))) }
+            ≡ matches_told self.old.reader.page.decoded self.old.matcher.told
+            (page_tags_from self.old.reader.page (take read.taken rest.now))) }
         ensures goes_on { OnOk result (self.new.failed ≡ false) }
         ensures failed { result ≡ Err PageError.Failed → self.old.failed ≡ true }
         ensures refused { IfErr result (λ error. self.old.failed ≡ false → Refuses error self.old rest.now) }
@@ -186,7 +188,8 @@ impl<T: Drop> Page<T> {
         ensures tag { IfOk result (λ read. with_some (tag_read self.new.reader.text read.tag) []
             ≡ page_tags_from self.old.reader.page (take read.taken chunk.now)) }
         ensures matched { IfOk result (λ read. IfSome read.tag (λ placed. map match_of self.new.matcher.matched
-            ≡ matched_of (answers_told self.old.matcher.told (events_of self.old.reader.page.decoded (with_text self.new.reader.text placed))))) }
+            ≡ matched_of (answers_told self.old.matcher.told
+            (events_of self.old.reader.page.decoded (with_text self.new.reader.text placed))))) }
         ensures closed { IfOk result (λ read. IsCalledAtEach F.step handler.old
             (handed_out self.old.matcher (tag_read self.new.reader.text read.tag)) handler.new) }
         ensures whole { IfOk result (λ read. IfNone read.tag (read.taken ≡ length chunk.now)) }
@@ -225,7 +228,8 @@ impl<T: Drop> Page<T> {
         ensures told { OnOk result (HearsOn self.old.matcher.told self.new.matcher.told
             (events_of self.old.reader.page.decoded (with_text self.old.reader.text placed.now))) }
         ensures matched { OnOk result (map match_of self.new.matcher.matched
-            ≡ matched_of (answers_told self.old.matcher.told (events_of self.old.reader.page.decoded (with_text self.old.reader.text placed.now)))) }
+            ≡ matched_of (answers_told self.old.matcher.told
+            (events_of self.old.reader.page.decoded (with_text self.old.reader.text placed.now)))) }
         ensures closed { OnOk result (IsCalledAtEach F.step handler.old
             (handed_out_by self.old.matcher self.old.reader.text placed.now.tag placed.now.namespace) handler.new) }
         ensures matcher_failed { OnOk result (self.new.matcher.failed ≡ self.old.matcher.failed) }
@@ -236,7 +240,8 @@ impl<T: Drop> Page<T> {
         ensures fits { OnOk result
             (FitsTag self.old.reader.page.decoded self.old.matcher self.old.reader.text placed.now.tag placed.now.namespace) }
         ensures refused { IfErr result (λ error.
-            RefusesTag self.old.reader.page.decoded error self.old.matcher self.old.reader.text placed.now.tag placed.now.namespace) }
+            RefusesTag self.old.reader.page.decoded error self.old.matcher self.old.reader.text
+            placed.now.tag placed.now.namespace) }
         ensures untold { OnErr result (self.new.matcher.told ≡ self.old.matcher.told) }
         ensures unasked { result ≡ Err PageError.Memory → self.new.matcher ≡ self.old.matcher }
         ensures unclosed { OnErr result (handler.new ≡ handler.old) }
