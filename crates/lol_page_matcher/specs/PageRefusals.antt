@@ -61,6 +61,12 @@ pub record Accepts {T : Type 0} (p : Page T) (bytes : List ℕ) : Type 0 where
   pub short : FirstIsLonger p.reader.limit (page_tags_from p.reader.page bytes) → ⊥
   pub fits : FitsFirst p.reader.page.decoded p.matcher (page_tags_from p.reader.page bytes)
 
+-- A matcher was told of nothing more: what is open stays open, and what is kept of it stays.
+pub record StaysAsTold {T : Type 0} (old new : Matching T) : Type 0 where
+  pub told : new.told ≡ old.told
+  pub open_elements : new.open_elements ≡ old.open_elements
+  pub kept : new.kept ≡ old.kept
+
 -- A page was refused for this in a chunk: so many bytes were read, none of whose tags is reported, and then what comes next was refused.
 pub record IsRefused {T : Type 0} (error : PageError) (old new : Page T) (chunk : List ℕ) : Type 0 where
   pub taken : ℕ
@@ -69,4 +75,4 @@ pub record IsRefused {T : Type 0} (error : PageError) (old new : Page T) (chunk 
   pub read : ReadsOn old before (take taken chunk)
   pub unreported : matches_told old.reader.page.decoded old.matcher.told (page_tags_from old.reader.page (take taken chunk)) ≡ []
   pub refused : Refuses error before (drop taken chunk)
-  pub told : new.matcher.told ≡ before.matcher.told
+  pub untold : StaysAsTold before.matcher new.matcher

@@ -6,7 +6,7 @@ ghost use Rattle.lol_tags.specs.Runs.{with_some};
 ghost use Rattle.lol_page.specs.Pages.{fresh_page, page_tags_from, events_of};
 ghost use Rattle.lol_page.specs.Readings.{tag_read, with_text};
 ghost use Rattle.lol_page_matcher.specs.PageMatches.{HearsOn, ReadsOn, answers_told, handed_out, handed_out_by, matched_of, matches_told, match_read};
-ghost use Rattle.lol_page_matcher.specs.PageRefusals.{Accepts, FitsTag, IsRefused, Refuses, RefusesTag};
+ghost use Rattle.lol_page_matcher.specs.PageRefusals.{Accepts, FitsTag, IsRefused, Refuses, RefusesTag, StaysAsTold};
 ghost use Rattle.lol_matcher.specs.Answering.{last_value, with_value};
 ghost use Rattle.lol_matcher.specs.Last.{last_opens};
 ghost use Rattle.lol_matcher.specs.Told.{elements_of};
@@ -157,7 +157,7 @@ impl<T: Drop> Page<T> {
         ensures failed { result ≡ Err PageError.Failed → self.old.failed ≡ true }
         ensures refused { IfErr result (λ error. self.old.failed ≡ false → Refuses error self.old rest.now) }
         ensures stuck { OnErr result (self.new.failed ≡ true) }
-        ensures untold { OnErr result (self.new.matcher.told ≡ self.old.matcher.told) }
+        ensures untold { OnErr result (StaysAsTold self.old.matcher self.new.matcher) }
     {
         let read = self.next_tag(rest, &mut |_element: OpenElement<T>| {})?;
         if self.matcher.matches().is_empty() {
@@ -198,7 +198,7 @@ impl<T: Drop> Page<T> {
         ensures accepted { OnOk result (Accepts self.old chunk.now) }
         ensures refused { IfErr result (λ error. self.old.failed ≡ false → Refuses error self.old chunk.now) }
         ensures stuck { OnErr result (self.new.failed ≡ true) }
-        ensures untold { OnErr result (self.new.matcher.told ≡ self.old.matcher.told) }
+        ensures untold { OnErr result (StaysAsTold self.old.matcher self.new.matcher) }
         ensures unasked { result ≡ Err PageError.Memory → self.new.matcher ≡ self.old.matcher }
         ensures unclosed { OnErr result (handler.new ≡ handler.old) }
     {
@@ -242,7 +242,7 @@ impl<T: Drop> Page<T> {
         ensures refused { IfErr result (λ error.
             RefusesTag self.old.reader.page.decoded error self.old.matcher self.old.reader.text
             placed.now.tag placed.now.namespace) }
-        ensures untold { OnErr result (self.new.matcher.told ≡ self.old.matcher.told) }
+        ensures untold { OnErr result (StaysAsTold self.old.matcher self.new.matcher) }
         ensures unasked { result ≡ Err PageError.Memory → self.new.matcher ≡ self.old.matcher }
         ensures unclosed { OnErr result (handler.new ≡ handler.old) }
     {

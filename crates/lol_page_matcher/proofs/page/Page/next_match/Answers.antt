@@ -19,7 +19,7 @@ returns-in_err-read-clause-refused g c =
       read = before.read;
       unreported = before.none;
       refused = subst (Refuses c.in_err-read.field-0.0 q) (take_rest c.args.chunk.now c.loop-i.i) (c.in_err-read.ensures.refused before.goes_on);
-      told = c.in_err-read.ensures.untold;
+      untold = c.in_err-read.ensures.untold;
     })
 
 pub returns-then-is_some-clause-read : goal.returns-then-is_some-clause-read
