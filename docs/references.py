@@ -39,7 +39,7 @@ def filled(words: list[str], ends: str) -> str:
 
 
 def literal(text: str) -> str:
-    return "".join(f"\\{sign}" if sign in '"\\' else sign if "!" <= sign <= "~" else f"\\u{{{ord(sign):X}}}" for sign in text)
+    return "".join(f"\\{sign}" if sign in '"\\' else sign if "!" <= sign <= "~" else f"\\u{{{ord(sign):04X}}}" for sign in text)
 
 
 def written() -> str:

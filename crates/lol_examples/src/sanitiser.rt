@@ -22,6 +22,7 @@ struct Sanitiser {
 
 /// What stays of a page that comes in chunks: all but the elements that are reported, with what is inside of them, end tags that close nothing,
 /// and what stands after the last tag from a `<` on, which may be a tag that isn't whole. What a browser reads otherwise is in docs/PAGES.md.
+/// That it ends, and panics on no page, is proved; which bytes stay is tested alone (test_machine).
 ///
 /// # Errors
 /// Those of `Page::next_tag`.

@@ -16,7 +16,8 @@ pub fn page_cuts_change_nothing()
 
 /// The bytes of a tag are those of the page at its places, and its line and column are those of its `<`.
 pub fn tags_stand_in_their_page()
-    ensures { (scripting decoded : Bool) (page : List ℕ) → All (StandsInPage page) (page_tags scripting decoded page) }
+    ensures { (scripting decoded : Bool) (page : List ℕ)
+        → All (StandsInPage page) (page_tags scripting decoded page) }
 {
     unfinished_tags_are_kept();
 }

@@ -238,7 +238,8 @@ impl<T: Drop> Page<T> {
         ensures reader { self.new.reader ≡ self.old.reader }
         ensures failed { self.new.failed ≡ self.old.failed }
         ensures fits { OnOk result
-            (FitsTag self.old.reader.page.decoded self.old.matcher self.old.reader.text placed.now.tag placed.now.namespace) }
+            (FitsTag self.old.reader.page.decoded self.old.matcher self.old.reader.text
+            placed.now.tag placed.now.namespace) }
         ensures refused { IfErr result (λ error.
             RefusesTag self.old.reader.page.decoded error self.old.matcher self.old.reader.text
             placed.now.tag placed.now.namespace) }

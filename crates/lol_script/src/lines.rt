@@ -214,7 +214,8 @@ fn start_in<'s>(
     outlines: &mut AttributeBuffer,
 ) -> Result<Option<StartLine<'s>>, AllocError>
     ensures said { IfOk result (λ start. (field : List ℕ) → Some namespace ≡ namespace_at field
-        → option_map (λ line. said_by (Line.Start line)) start ≡ start_at finish (field ∷ slice_split is_tab rest.now)) }
+        → option_map (λ line. said_by (Line.Start line)) start
+        ≡ start_at finish (field ∷ slice_split is_tab rest.now)) }
     ensures outlines { IfOk result (λ start. IfSome start (λ line. AreOutlinesOf line.attributes outlines.new.items)) }
 {
     let (name, attributes) = first_field(rest);

@@ -1,4 +1,5 @@
-//! The open elements of a document, with what hangs on each: its data, the counters of its children, the ranges of instructions that it makes active. What is found by name costs no more than its length, whatever names a page has.
+//! The open elements of a document, with what hangs on each: its data, the counters of its children, the ranges of instructions that it makes
+//! active; and values by the names of elements, at a cost that no choice of names makes large.
 #![tactic(auto)]
 
 mod active_ranges;
