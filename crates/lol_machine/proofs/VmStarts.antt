@@ -28,6 +28,17 @@ counted_data s name = data_if (with_typed s _) (slice_get (items_in s) (length (
 
 -- 2. Opening
 
+-- a context that was left as it was
+module _ {E : Type 0} {ctx next : ExecutionCtx E} (same : next ≡ ctx) where
+  pub content_there : {b : Bool} → ctx.with_content ≡ b → next.with_content ≡ b
+  content_there is = ap (λ (c : ExecutionCtx E). c.with_content) same ∙ is
+
+  pub content_here : {b : Bool} → next.with_content ≡ b → ctx.with_content ≡ b
+  content_here is = sym (ap (λ (c : ExecutionCtx E). c.with_content) same) ∙ is
+
+  pub entered_here : (old new : Vm E) → IsEntered next.with_content next.stack_item old new → IsEntered ctx.with_content ctx.stack_item old new
+  entered_here old new = subst (λ (c : ExecutionCtx E). IsEntered c.with_content c.stack_item old new) same
+
 -- data to which those of an element with content were added
 abbrev pub data_with : {E : Type 0} → Bool → StackItemOf Name E → List E → List E
 data_with true item old = old ++ item.element_data ∷ []

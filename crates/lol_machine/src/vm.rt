@@ -30,9 +30,7 @@ use crate::error::{AuxStartTagInfoRequest, StartTagError, VmError};
 use crate::spared_runs::{RowSpace, find_at, find_by_name};
 use crate::tag_runs::{RecoveryPoint, TagRun};
 use lol_base::{AuxStartTagInfo, LocalName, Namespace};
-use lol_memory::{
-    DenseHashSet, MatchInfo, MemoryLimitExceededError, PushError, SharedMemoryLimiter,
-};
+use lol_memory::{DenseHashSet, MatchInfo, PushError, SharedMemoryLimiter};
 use lol_program::{Ast, AttributeMatcher, Compiler, Program, Tries};
 use lol_stack::{
     ElementData, ExecutionCtx, Stack, StackDirective, StackItem, StackItemOf, StackNames, StackOf,
@@ -218,7 +216,8 @@ impl<E: ElementData> VmOf<Program, LocalName<'static>, StackNames, E> {
         if let Some(point) = stopped {
             return self.request(ctx, point);
         }
-        match self.answer(ctx, limiter, match_handler) {
+        ctx.handle_matched_ids(match_handler);
+        match self.enter(ctx, limiter) {
             Ok(()) => Ok(()),
             Err(error) => Err(VmError::from(error)),
         }
@@ -282,7 +281,8 @@ impl<E: ElementData> VmOf<Program, LocalName<'static>, StackNames, E> {
                 Err(error) => Err(StartTagError::from(error)),
             };
         }
-        match self.answer(ctx, limiter, match_handler) {
+        ctx.handle_matched_ids(match_handler);
+        match self.enter(ctx, limiter) {
             Ok(()) => Ok(false),
             Err(error) => Err(StartTagError::from(error)),
         }
@@ -420,18 +420,13 @@ impl<E: ElementData> VmOf<Program, LocalName<'static>, StackNames, E> {
         }
     }
 
-    /// Reports what was gathered, and opens the element if it has content.
+    /// Opens the element of a start tag that was reported, if it has content.
     #[inline(always)]
-    fn answer<F: FnMut(MatchInfo)>(
+    fn enter(
         &mut self,
-        mut ctx: ExecutionCtx<'_, E>,
+        ctx: ExecutionCtx<'_, E>,
         limiter: &mut SharedMemoryLimiter,
-        match_handler: &mut F,
     ) -> Result<(), PushError>
-        requires { F.IsAlwaysCallable match_handler.old }
-        ensures again { F.IsAlwaysCallable match_handler.new }
-        ensures reported { IsCalledAtEach F.step match_handler.old
-            (reports ctx.entry.with_content (ascending (E.ids ctx.entry.stack_item.element_data))) match_handler.new }
         ensures ok { OnOk result (IsEntered ctx.entry.with_content ctx.entry.stack_item self.old self.new) }
         ensures charges { ChargesSlots self.old self.new limiter.old limiter.new }
         ensures limited { IsErrOf result (PushError.Limit (record {}))
@@ -442,12 +437,10 @@ impl<E: ElementData> VmOf<Program, LocalName<'static>, StackNames, E> {
         ensures left { OnErr result (OpensNothing None self.old self.new limiter.old limiter.new) }
         ensures refused { OnErr result (has_failed self.new ≡ true) }
     {
-        ctx.handle_matched_ids(match_handler);
         if !ctx.with_content {
             return Ok(());
         }
-        let ExecutionCtx { stack_item, .. } = ctx;
-        let pushed = open_element(&mut self.stack, self.alloc, stack_item, limiter);
+        let pushed = self.stack.push_item(ctx.stack_item, limiter);
         self.failed |= pushed.is_err();
         pushed
     }
@@ -532,7 +525,8 @@ impl<E: ElementData> VmOf<Program, LocalName<'static>, StackNames, E> {
             self.failed = true;
             return Err(PushError::Memory(error));
         }
-        self.answer(ctx, limiter, match_handler)
+        ctx.handle_matched_ids(match_handler);
+        self.enter(ctx, limiter)
     }
 
     /// Runs what is left of a start tag that stopped at a point.
@@ -641,31 +635,6 @@ impl<E: ElementData> VmOf<Program, LocalName<'static>, StackNames, E> {
             alloc: _,
         } = self;
         stack.release(limiter);
-    }
-}
-
-/// Opens an element. Whether it can be charged is judged before any memory is taken, that for its name too.
-#[inline(always)]
-fn open_element<E: ElementData>(
-    stack: &mut Stack<E>,
-    alloc: Global,
-    item: StackItem<'_, E>,
-    limiter: &mut SharedMemoryLimiter,
-) -> Result<(), PushError>
-    ensures ok { OnOk result (IsPushed stack.old item.entry stack.new) }
-    ensures charged { OnOk result
-        (limiter.new ≡ charged limiter.old (grown_slots (list_in stack.old) * item_bytes_in stack.old)) }
-    ensures limited { IsErrOf result (PushError.Limit (record {})) ↔ IsLimited (list_in stack.old) limiter.old }
-    ensures unlimited { OnOk result (IsLimited (list_in stack.old) limiter.old → ⊥) }
-    ensures err { OnErr result (IsSame stack.old stack.new) }
-    ensures err_limiter { OnErr result (limiter.new ≡ limiter.old) }
-{
-    if stack.is_limited(limiter) {
-        return Err(PushError::Limit(MemoryLimitExceededError));
-    }
-    match item.into_owned(alloc) {
-        Ok(item) => stack.push_item(item, limiter),
-        Err(error) => Err(PushError::Memory(error)),
     }
 }
 

@@ -1,6 +1,6 @@
 //! A list whose slots are charged to a limiter before they are taken.
 
-ghost use Rattle.std.specs.Prelude.{◌≡◌, ◌⊎◌, ◌^◌, ◌≤◌, ◌<◌, ◌-◌, ◌+◌, ◌*◌, ◌++◌, ◌↔◌, [], length, reverse, option_to_list, IfSome, IsNone, IsSome, OnOk, OnErr, IsOk, IsErrOf, IsTrue, slice_get, slice_range, slice_index_or, option_copied};
+ghost use Rattle.std.specs.Prelude.{◌≡◌, ◌⊎◌, ◌^◌, ◌≤◌, ◌<◌, ◌-◌, ◌+◌, ◌*◌, ◌++◌, ◌∷◌, ◌↔◌, [], length, reverse, option_to_list, IfSome, IsNone, IsSome, OnOk, OnErr, IsOk, IsErrOf, IsTrue, slice_get, slice_range, slice_index_or, option_copied};
 ghost use Rattle.std.specs.Option.{option_copied_mut};
 ghost use Rattle.std.specs.Borrow.{sem};
 ghost use Rattle.std.specs.Iterator.{at_most};
@@ -124,8 +124,17 @@ impl<T> LimitedVec<T> {
         ensures err_limiter { OnErr result (limiter.new ≡ limiter.old) }
     {
         self.make_room(limiter)?;
-        self.vec.push_reserved(element);
+        self.push_reserved(element);
         Ok(())
+    }
+
+    /// Adds an element in a free slot (`make_room`).
+    #[inline(always)]
+    pub fn push_reserved(&mut self, element: T)
+        requires { length self.old.items < self.old.slots }
+        ensures { self.new ≡ record self.old { items = self.old.items ++ element ∷ [] } }
+    {
+        self.vec.push_reserved(element);
     }
 
     /// Whether the next push, with this limiter, is refused with `Limit`. It takes no memory.
@@ -141,8 +150,8 @@ impl<T> LimitedVec<T> {
         }
     }
 
-    /// Charges and makes the slots that the next push needs.
-    fn make_room(&mut self, limiter: &mut SharedMemoryLimiter) -> Result<(), PushError>
+    /// Charges and makes the slots that the next push needs, which is then neither a growth nor a charge. It is refused as `push` is.
+    pub fn make_room(&mut self, limiter: &mut SharedMemoryLimiter) -> Result<(), PushError>
         ensures ok { OnOk result (self.new ≡ record self.old { slots = self.old.slots + grown_slots self.old }) }
         ensures room { OnOk result (length self.new.items < self.new.slots) }
         ensures charged { OnOk result (limiter.new ≡ charged limiter.old (grown_slots self.old * self.old.item_bytes)) }

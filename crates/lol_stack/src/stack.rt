@@ -93,13 +93,6 @@ impl<N, M, E> StackOf<N, M, E> {
         self.items.slots()
     }
 
-    /// Whether the next element that is opened, with this limiter, is refused with `Limit`. It takes no memory. (Not in lol_html.)
-    pub fn is_limited(&self, limiter: &SharedMemoryLimiter) -> bool
-        ensures { IsTrue result ↔ IsLimited (list_in self.now) limiter.now }
-    {
-        self.items.is_limited(limiter)
-    }
-
     /// The counter of the last open element, or of the root.
     fn child_counter(&self) -> &ChildCounter
         ensures { result.now ≡ last_count self.now }
@@ -181,7 +174,7 @@ impl<E> StackOf<LocalName<'static>, StackNames, E> {
     #[inline(always)]
     pub fn push_item(
         &mut self,
-        item: StackItem<'static, E>,
+        item: StackItem<'_, E>,
         limiter: &mut SharedMemoryLimiter,
     ) -> Result<(), PushError>
     where
@@ -211,11 +204,12 @@ impl<E> StackOf<LocalName<'static>, StackNames, E> {
             self.active_hereditary_jumps.truncate(active);
             return Err(PushError::Memory(error));
         }
-        if let Err(error) = self.items.push(item, limiter) {
+        if let Err(error) = self.items.make_room(limiter) {
             self.names.open_names.remove(&name);
             self.active_hereditary_jumps.truncate(active);
             return Err(error);
         }
+        self.items.push_reserved(item.with_name(name));
         Ok(())
     }
 

@@ -113,26 +113,26 @@ impl<N, E> StackItemOf<N, E> {
 
 impl<'i, E: Drop> StackItemOf<LocalName<'i>, E> {
     /// The same element, whose name borrows nothing. A name that is a hash takes no memory.
-    #[inline(always)]
     pub fn into_owned(self, alloc: Global) -> Result<StackItem<'static, E>, AllocError>
         ensures same { IfOk result (λ item. item ≡ self.entry) }
         ensures no_memory { IsNone self.entry.local_name.spelling → IsOk result }
     {
-        let StackItemOf {
-            local_name,
-            element_data,
-            jumps,
-            hereditary_jumps,
-            child_counter,
-            stack_directive,
-        } = self;
-        Ok(StackItemOf {
-            local_name: local_name.into_owned(alloc)?,
-            element_data,
-            jumps,
-            hereditary_jumps,
-            child_counter,
-            stack_directive,
-        })
+        let name = self.local_name.try_clone(alloc)?;
+        Ok(self.with_name(name))
+    }
+
+    /// The same element with this name.
+    #[inline(always)]
+    pub(crate) fn with_name(self, name: LocalName<'static>) -> StackItem<'static, E>
+        ensures { result ≡ record self.entry { local_name = name.entry } }
+    {
+        StackItemOf {
+            local_name: name,
+            element_data: self.element_data,
+            jumps: self.jumps,
+            hereditary_jumps: self.hereditary_jumps,
+            child_counter: self.child_counter,
+            stack_directive: self.stack_directive,
+        }
     }
 }

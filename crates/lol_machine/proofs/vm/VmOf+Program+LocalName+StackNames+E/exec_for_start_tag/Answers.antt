@@ -8,7 +8,7 @@ use Rattle.lol_machine.specs.CallCharges.{charges_both}
 use Rattle.lol_machine.proofs.Charging.{charges_unopened}
 use Rattle.lol_machine.proofs.FreeTagLemmas.{asked_only, limit_only, not_for_memory, void_is_closed, void_unspelled}
 use Rattle.lol_machine.proofs.TriedStartLemmas.{began, begun_answered, begun_complete, begun_due, begun_pending, begun_unfailed, named_so, new_context}
-use Rattle.lol_machine.proofs.VmStarts.{reported, requested_is}
+use Rattle.lol_machine.proofs.VmStarts.{content_here, content_there, entered_here, reported, requested_is}
 use Rattle.lol_machine.specs.RunLaws.{err_is_not_ok}
 use Rattle.lol_machine.proofs.VmRefusals.{error_is, never_both, push_isnt_silent, push_is_limit, refused_alike, refused_as, refused_full_only, refused_isnt_asked, requested_as, requested_ok, requested_refused, not_false, on_err, opens_nothing_both, opens_nothing_of, requested_keeps, same_opens_nothing, stays_unfailed, unfailed_before}
 use Rattle.lol_machine.proofs.vm.VmOf+Program+LocalName+StackNames+E.exec_for_start_tag.Goals as goal
@@ -83,17 +83,17 @@ returns-in-Some g c =
 
 -- 3. It is reported, and opened if it has content
 
-pub returns-in-Ok-answer : goal.returns-in-Ok-answer
-returns-in-Ok-answer g c =
+pub returns-in-Ok-enter : goal.returns-in-Ok-enter
+returns-in-Ok-enter g c =
     let b = began g.met.E.ElementData.ids_of_changed c.new-ctx.ensures.item c.new-ctx.ensures.ns c.new-ctx.ensures.with_content c.in-Ok.ensures.begun in
     record {
-      again = c.answer.ensures.again;
+      again = c.handle_matched_ids.ensures.again;
       answered = λ s esi events tag stands named. (
-        λ opens limited. c.in-Ok-answer.ensures.within ((begun_complete b s esi events tag stands named c.in_default.is).content ∙ opens) ((begun_due b c.args.limiter.now).0 limited),
-        begun_answered b s esi events tag stands named c.in_default.is _ c.args.match_handler.now c.answer.new.match_handler c.answer.new.self c.in-Ok-answer.ensures.reported c.in-Ok-answer.ensures.ok,
+        λ opens limited. c.in-Ok-enter.ensures.within (content_there c.handle_matched_ids.ensures.same ((begun_complete b s esi events tag stands named c.in_default.is).content ∙ opens)) ((begun_due b c.args.limiter.now).0 limited),
+        begun_answered b s esi events tag stands named c.in_default.is _ c.args.match_handler.now c.handle_matched_ids.new.handler c.enter.new.self c.handle_matched_ids.ensures.called (entered_here c.handle_matched_ids.ensures.same _ _ c.in-Ok-enter.ensures.ok),
       );
       asked = λ request is. cc;
-      charges = charges_both (charges_unopened (c.begin.ensures.left c.args.limiter.now) c.begin.ensures.bytes) c.answer.ensures.charges;
+      charges = charges_both (charges_unopened (c.begin.ensures.left c.args.limiter.now) c.begin.ensures.bytes) c.enter.ensures.charges;
       left = tt;
       failed = stays_unfailed (λ is. cc) (unfailed_before c.begin.ensures.failed (never_both c.begin.result c.in-Ok.is));
       full = (λ is. cc, λ full. absurd (omega (arith, c.in-Ok.ensures.begun.room, full.1)));
@@ -101,46 +101,46 @@ returns-in-Ok-answer g c =
       silent = λ e is silent. cc;
       limited = λ limit. cc;
       no_memory = λ e is s esi events tag stands named takes. cc;
-      tried = λ s esi events tag stands named. subst (IsTriedAtMost s esi events tag) (sym c.answer.ensures.tries) (c.begin.ensures.tried s esi events tag stands (named_so c.new-ctx.ensures.item c.new-ctx.ensures.ns tag named));
+      tried = λ s esi events tag stands named. subst (IsTriedAtMost s esi events tag) (sym c.enter.ensures.tries) (c.begin.ensures.tried s esi events tag stands (named_so c.new-ctx.ensures.item c.new-ctx.ensures.ns tag named));
       due = λ e is due s esi events tag stands named runs. cc;
       all_or_none = λ e is. cc;
     }
 
 -- 4. Its element can't be opened
 
-pub returns-in-Err-answer : goal.returns-in-Err-answer
-returns-in-Err-answer g c =
+pub returns-in-Err-enter : goal.returns-in-Err-enter
+returns-in-Err-enter g c =
     let b = began g.met.E.ElementData.ids_of_changed c.new-ctx.ensures.item c.new-ctx.ensures.ns c.new-ctx.ensures.with_content c.in-Ok.ensures.begun in
     let left = c.begin.ensures.left c.args.limiter.now in
-    let pushed = c.in-Err-answer.error in
-    let error = c.from-in-Err-answer.result in
-    let from = c.from-in-Err-answer.ensures in
-    let never = λ (closed : c.begin.new.ctx.with_content ≡ false). err_is_not_ok c.answer.result pushed c.in-Err-answer.is (c.answer.ensures.closed closed) in
+    let pushed = c.in-Err-enter.error in
+    let error = c.from-in-Err-enter.result in
+    let from = c.from-in-Err-enter.ensures in
+    let never = λ (closed : c.begin.new.ctx.with_content ≡ false). err_is_not_ok c.enter.result pushed c.in-Err-enter.is (c.enter.ensures.closed (content_there c.handle_matched_ids.ensures.same closed)) in
     -- where it can't be charged, that is why
     let limit = λ (e : VmError _) (same : e ≡ error) (due : IsDue c.args.self.now c.args.limiter.now).
-    limit_only c.answer.result pushed e c.in-Err-answer.is (c.answer.ensures.limited.1 (not_false c.begin.new.ctx.with_content never, (begun_due b c.args.limiter.now).0 due)) (same ∙ from) in
+    limit_only c.enter.result pushed e c.in-Err-enter.is (c.enter.ensures.limited.1 (content_there c.handle_matched_ids.ensures.same (not_false c.begin.new.ctx.with_content never), (begun_due b c.args.limiter.now).0 due)) (same ∙ from) in
     record {
-      again = c.answer.ensures.again;
+      again = c.handle_matched_ids.ensures.again;
       answered = tt;
       asked = λ request is. absurd (push_isnt_silent pushed error (InfoRequest request) from (error_is is) tt);
-      charges = charges_both (charges_unopened left c.begin.ensures.bytes) c.answer.ensures.charges;
-      left = opens_nothing_both (opens_nothing_of c.new-ctx.ensures.item.name left) c.in-Err-answer.ensures.left;
+      charges = charges_both (charges_unopened left c.begin.ensures.bytes) c.enter.ensures.charges;
+      left = opens_nothing_both (opens_nothing_of c.new-ctx.ensures.item.name left) c.in-Err-enter.ensures.left;
       failed = stays_unfailed (λ is. push_isnt_silent pushed error Failed from (error_is is) tt) (unfailed_before c.begin.ensures.failed (never_both c.begin.result c.in-Ok.is));
       full = (λ is. absurd (push_isnt_silent pushed error CounterFull from (error_is is) tt), λ full. absurd (omega (arith, c.in-Ok.ensures.begun.room, full.1)));
-      refused = λ e is refusal. c.in-Err-answer.ensures.refused;
+      refused = λ e is refusal. c.in-Err-enter.ensures.refused;
       silent = λ e is silent. absurd (push_isnt_silent pushed error e from (error_is is) silent);
       limited = λ limit.
-          let opens = c.answer.ensures.limited.0 (c.in-Err-answer.is ∙ ap Err (push_is_limit pushed error from (error_is limit))) in (
+          let opens = c.enter.ensures.limited.0 (c.in-Err-enter.is ∙ ap Err (push_is_limit pushed error from (error_is limit))) in (
             (begun_due b c.args.limiter.now).1 opens.1,
             λ s esi events tag stands named.
                 let all = begun_complete b s esi events tag stands named c.in_default.is in
-                (sym all.content ∙ opens.0, reported all c.in-Err-answer.ensures.reported _ c.answer.ensures.tries),
+                (sym all.content ∙ content_here c.handle_matched_ids.ensures.same opens.0, reported all c.handle_matched_ids.ensures.called _ c.enter.ensures.tries),
           );
       no_memory = λ e is s esi events tag stands named takes. absurd (never ((begun_complete b s esi events tag stands named c.in_default.is).content ∙ void_is_closed esi tag takes.1 takes.2));
-      tried = λ s esi events tag stands named. subst (IsTriedAtMost s esi events tag) (sym c.answer.ensures.tries) (c.begin.ensures.tried s esi events tag stands (named_so c.new-ctx.ensures.item c.new-ctx.ensures.ns tag named));
+      tried = λ s esi events tag stands named. subst (IsTriedAtMost s esi events tag) (sym c.enter.ensures.tries) (c.begin.ensures.tried s esi events tag stands (named_so c.new-ctx.ensures.item c.new-ctx.ensures.ns tag named));
       due = λ e is due s esi events tag stands named runs. limit e (sym (error_is is)) due;
       all_or_none = λ e is. inr (
-        λ s esi events tag stands named. reported (begun_complete b s esi events tag stands named c.in_default.is) c.in-Err-answer.ensures.reported _ c.answer.ensures.tries,
+        λ s esi events tag stands named. reported (begun_complete b s esi events tag stands named c.in_default.is) c.handle_matched_ids.ensures.called _ c.enter.ensures.tries,
         λ due. limit (Memory e) (sym (error_is is)) due,
       );
     }

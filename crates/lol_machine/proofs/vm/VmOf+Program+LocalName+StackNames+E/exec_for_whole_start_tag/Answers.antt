@@ -6,7 +6,7 @@ use Rattle.lol_machine.specs.CallCharges.{charges_both}
 use Rattle.lol_machine.proofs.Charging.{charges_unopened}
 use Rattle.lol_machine.proofs.FreeTagLemmas.{memory_instead, void_is_closed}
 use Rattle.lol_machine.proofs.TriedStartLemmas.{began, begun_answered, begun_complete, begun_due, begun_pending, named_so, new_context, reported_if, whole_since}
-use Rattle.lol_machine.proofs.VmStarts.{answered_since, reported}
+use Rattle.lol_machine.proofs.VmStarts.{answered_since, content_here, content_there, entered_here, reported}
 use Rattle.lol_machine.specs.RunLaws.{err_is_not_ok}
 use Rattle.lol_machine.proofs.VmRefusals.{error_is, never_both, refused_push_is, refused_push_isnt, refused_same, not_false, opens_nothing_both, opens_nothing_of, stays_unfailed, unfailed_before}
 use Rattle.lol_machine.proofs.vm.VmOf+Program+LocalName+StackNames+E.exec_for_whole_start_tag.Goals as goal
@@ -98,16 +98,16 @@ returns-in-Err-finish g c =
 
 -- 3. It was run to its end
 
-pub returns-in-Ok-answer : goal.returns-in-Ok-answer
-returns-in-Ok-answer g c =
+pub returns-in-Ok-enter : goal.returns-in-Ok-enter
+returns-in-Ok-enter g c =
     let b = began g.met.E.ElementData.ids_of_changed c.new-ctx.ensures.item c.new-ctx.ensures.ns c.new-ctx.ensures.with_content c.in-Ok.ensures.begun in
     record {
-      again = c.answer.ensures.again;
+      again = c.handle_matched_ids.ensures.again;
       answered = λ s esi events tag stands named rest. (
-        λ opens due. c.in-Ok-answer.ensures.within ((begun_complete b s esi events tag stands named c.in_default.is).content ∙ opens) ((begun_due b c.args.limiter.now).0 due),
-        begun_answered b s esi events tag stands named c.in_default.is _ c.args.match_handler.now c.answer.new.match_handler c.answer.new.self c.in-Ok-answer.ensures.reported c.in-Ok-answer.ensures.ok,
+        λ opens due. c.in-Ok-enter.ensures.within (content_there c.handle_matched_ids.ensures.same ((begun_complete b s esi events tag stands named c.in_default.is).content ∙ opens)) ((begun_due b c.args.limiter.now).0 due),
+        begun_answered b s esi events tag stands named c.in_default.is _ c.args.match_handler.now c.handle_matched_ids.new.handler c.enter.new.self c.handle_matched_ids.ensures.called (entered_here c.handle_matched_ids.ensures.same _ _ c.in-Ok-enter.ensures.ok),
       );
-      charges = charges_both (charges_unopened (c.begin.ensures.left c.args.limiter.now) c.begin.ensures.bytes) c.answer.ensures.charges;
+      charges = charges_both (charges_unopened (c.begin.ensures.left c.args.limiter.now) c.begin.ensures.bytes) c.enter.ensures.charges;
       left = tt;
       failed = stays_unfailed (λ is. cc) (unfailed_before c.begin.ensures.failed (never_both c.begin.result c.in-Ok.is));
       full = (λ is. cc, λ full. absurd (omega (arith, c.in-Ok.ensures.begun.room, full.1)));
@@ -115,45 +115,45 @@ returns-in-Ok-answer g c =
       silent = λ is. elim is [ inl full ↦ cc | inr failed ↦ cc ];
       limited = λ limit. cc;
       no_memory = tt;
-      tried = λ s esi events tag stands named rest. subst (IsTriedAtMost s esi events tag) (sym c.answer.ensures.tries) (c.begin.ensures.tried s esi events tag stands (named_so c.new-ctx.ensures.item c.new-ctx.ensures.ns tag named));
+      tried = λ s esi events tag stands named rest. subst (IsTriedAtMost s esi events tag) (sym c.enter.ensures.tries) (c.begin.ensures.tried s esi events tag stands (named_so c.new-ctx.ensures.item c.new-ctx.ensures.ns tag named));
       due = tt;
       all_or_none = λ is. cc;
     }
 
-pub returns-in-Err-answer : goal.returns-in-Err-answer
-returns-in-Err-answer g c =
+pub returns-in-Err-enter : goal.returns-in-Err-enter
+returns-in-Err-enter g c =
     let b = began g.met.E.ElementData.ids_of_changed c.new-ctx.ensures.item c.new-ctx.ensures.ns c.new-ctx.ensures.with_content c.in-Ok.ensures.begun in
     let left = c.begin.ensures.left c.args.limiter.now in
-    let pushed = c.in-Err-answer.error in
-    let error = c.from-in-Err-answer.result in
-    let from = c.from-in-Err-answer.ensures in
+    let pushed = c.in-Err-enter.error in
+    let error = c.from-in-Err-enter.result in
+    let from = c.from-in-Err-enter.ensures in
     let isnt = refused_push_isnt pushed error from in
-    let never = λ (closed : c.begin.new.ctx.with_content ≡ false). err_is_not_ok c.answer.result pushed c.in-Err-answer.is (c.answer.ensures.closed closed) in
+    let never = λ (closed : c.begin.new.ctx.with_content ≡ false). err_is_not_ok c.enter.result pushed c.in-Err-enter.is (c.enter.ensures.closed (content_there c.handle_matched_ids.ensures.same closed)) in
     -- memory isn't refused where it can't be charged
     let room = λ (memory : error ≡ refusals.Memory) (due : IsDue c.args.self.now c.args.limiter.now).
-    memory_instead c.answer.result _ (c.in-Err-answer.is ∙ ap Err (refused_push_is pushed (pushes.Memory (record {})) error from memory))
-    (c.answer.ensures.limited.1 (not_false c.begin.new.ctx.with_content never, (begun_due b c.args.limiter.now).0 due)) in
+    memory_instead c.enter.result _ (c.in-Err-enter.is ∙ ap Err (refused_push_is pushed (pushes.Memory (record {})) error from memory))
+    (c.enter.ensures.limited.1 (content_there c.handle_matched_ids.ensures.same (not_false c.begin.new.ctx.with_content never), (begun_due b c.args.limiter.now).0 due)) in
     record {
-      again = c.answer.ensures.again;
+      again = c.handle_matched_ids.ensures.again;
       answered = tt;
-      charges = charges_both (charges_unopened left c.begin.ensures.bytes) c.answer.ensures.charges;
-      left = opens_nothing_both (opens_nothing_of c.new-ctx.ensures.item.name left) c.in-Err-answer.ensures.left;
+      charges = charges_both (charges_unopened left c.begin.ensures.bytes) c.enter.ensures.charges;
+      left = opens_nothing_both (opens_nothing_of c.new-ctx.ensures.item.name left) c.in-Err-enter.ensures.left;
       failed = stays_unfailed (λ is. isnt.0 (error_is is)) (unfailed_before c.begin.ensures.failed (never_both c.begin.result c.in-Ok.is));
       full = (λ is. absurd (isnt.1 (error_is is)), λ full. absurd (omega (arith, c.in-Ok.ensures.begun.room, full.1)));
-      refused = c.in-Err-answer.ensures.refused;
+      refused = c.in-Err-enter.ensures.refused;
       silent = λ is. absurd (elim is [ inl full ↦ isnt.1 (error_is full) | inr failed ↦ isnt.0 (error_is failed) ]);
       limited = λ limit.
-          let opens = c.answer.ensures.limited.0 (c.in-Err-answer.is ∙ ap Err (refused_push_is pushed (pushes.Limit (record {})) error from (error_is limit))) in (
+          let opens = c.enter.ensures.limited.0 (c.in-Err-enter.is ∙ ap Err (refused_push_is pushed (pushes.Limit (record {})) error from (error_is limit))) in (
             (begun_due b c.args.limiter.now).1 opens.1,
             λ s esi events tag stands named rest.
                 let all = begun_complete b s esi events tag stands named c.in_default.is in
-                (sym all.content ∙ opens.0, reported_if (reported all c.in-Err-answer.ensures.reported _ c.answer.ensures.tries)),
+                (sym all.content ∙ content_here c.handle_matched_ids.ensures.same opens.0, reported_if (reported all c.handle_matched_ids.ensures.called _ c.enter.ensures.tries)),
           );
       no_memory = λ s esi events tag stands named takes. absurd (never ((begun_complete b s esi events tag stands named c.in_default.is).content ∙ void_is_closed esi tag takes.1 takes.2));
-      tried = λ s esi events tag stands named rest. subst (IsTriedAtMost s esi events tag) (sym c.answer.ensures.tries) (c.begin.ensures.tried s esi events tag stands (named_so c.new-ctx.ensures.item c.new-ctx.ensures.ns tag named));
+      tried = λ s esi events tag stands named rest. subst (IsTriedAtMost s esi events tag) (sym c.enter.ensures.tries) (c.begin.ensures.tried s esi events tag stands (named_so c.new-ctx.ensures.item c.new-ctx.ensures.ns tag named));
       due = λ due s esi events tag stands named flat memory. room memory due;
       all_or_none = λ is. inr (
-        λ s esi events tag stands named rest. reported_if (reported (begun_complete b s esi events tag stands named c.in_default.is) c.in-Err-answer.ensures.reported _ c.answer.ensures.tries),
+        λ s esi events tag stands named rest. reported_if (reported (begun_complete b s esi events tag stands named c.in_default.is) c.handle_matched_ids.ensures.called _ c.enter.ensures.tries),
         λ due. room (error_is is) due,
       );
     }

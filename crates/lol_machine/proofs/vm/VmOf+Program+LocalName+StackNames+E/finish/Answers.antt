@@ -6,7 +6,7 @@ use Rattle.lol_machine.specs.TriedStarts.{left_at, ranges_to_complete}
 use Rattle.lol_machine.specs.Vms.{IsEntered, NeedsRest, OpensNothing}
 use Rattle.lol_machine.proofs.FreeTagLemmas.{finished_closed, is_alone_free, is_closed_free, memory_instead, void_is_closed}
 use Rattle.lol_machine.proofs.VmFinishes.{answered_now, can_finish, complete, has_room, open_tried, rs, same_after, stopped_there, tried_at_most, x}
-use Rattle.lol_machine.proofs.VmStarts.{IsComplete, reported}
+use Rattle.lol_machine.proofs.VmStarts.{IsComplete, content_here, content_there, reported}
 use Rattle.lol_machine.specs.RunLaws.{err_is_not_ok}
 use Rattle.lol_machine.proofs.VmRefusals.{not_false, on_ok_both, opens_nothing_both, same_opens_nothing}
 use Rattle.lol_machine.proofs.vm.VmOf+Program+LocalName+StackNames+E.finish.Given as given
@@ -77,14 +77,14 @@ returns-in-Err-clause-due g c = λ error is due s esi events tag pending flat.
 -- 3. It was reported
 
 -- what was run changes nothing that a list of open elements is charged by
-module _ (g : given.Over) (c : goal.After-answer g) where
+module _ (g : given.Over) (c : goal.After-enter g) where
   due_now : IsDue c.complete.new.self c.args.limiter.now → IsDue c.args.self.now c.args.limiter.now
   due_now = subst (λ vm. IsDue vm c.args.limiter.now) c.complete.ensures.kept
 
   due_then : IsDue c.args.self.now c.args.limiter.now → IsDue c.complete.new.self c.args.limiter.now
   due_then = subst (λ vm. IsDue vm c.args.limiter.now) (sym c.complete.ensures.kept)
 
-module _ (g : given.Over) (c : goal.After-answer g) (s : Selectors) (esi : Bool) (events : List Event) (tag : StartTag) (pending : IsPending g.E.ElementData.ids s esi events tag c.args.self.now (left_at c.args.ctx c.args.point)) (rest : IsRestOf c.args.aux_info tag) where
+module _ (g : given.Over) (c : goal.After-enter g) (s : Selectors) (esi : Bool) (events : List Event) (tag : StartTag) (pending : IsPending g.E.ElementData.ids s esi events tag c.args.self.now (left_at c.args.ctx c.args.point)) (rest : IsRestOf c.args.aux_info tag) where
   executed : AreExecuted g.E.ElementData.ids g.E.ElementData.with_ids (sight_in c.args.self.now.stack c.args.ctx.stack_item.local_name) c.args.self.now.program.instructions.items
       (ranges_left (rs g.E.ElementData.ids c.args.self.now s esi events tag (left_at c.args.ctx c.args.point) pending c.args.point) c.args.point)
       (record c.args.ctx { with_content = content_in c.args.ctx.ns c.args.ctx.with_content c.args.aux_info.self_closing }) c.complete.new.ctx c.args.self.now.tries c.complete.new.self.tries (tag_attributes tag) (tried_at c.args.point)
@@ -116,47 +116,48 @@ module _ (g : given.Over) (c : goal.After-answer g) (s : Selectors) (esi : Bool)
 
 pub returns-clause-answered : goal.returns-clause-answered
 returns-clause-answered g c =
-    on_ok_both c.answer.result
+    on_ok_both c.enter.result
     (λ entered within s esi events tag pending rest. (
-      λ opens due. within ((told g c s esi events tag pending rest).content ∙ opens) (due_then g c due),
+      λ opens due. within (content_there c.handle_matched_ids.ensures.same ((told g c s esi events tag pending rest).content ∙ opens)) (due_then g c due),
       answered_now g.E.ElementData.ids c.args.self.now s esi events tag (left_at c.args.ctx c.args.point) pending g.E.ElementData.with_ids g.met.E.ElementData.ids_of_changed c.args.aux_info.self_closing
-          (sym rest.1) rest.2 c.complete.new.ctx c.complete.new.self.tries (executed g c s esi events tag pending rest) _ c.args.match_handler.now c.answer.new.match_handler c.complete.new.self.space (λ room rows. omega (arith, room rows, c.complete.ensures.room)) c.answer.new.self c.answer.ensures.reported entered,
+          (sym rest.1) rest.2 c.complete.new.ctx c.complete.new.self.tries (executed g c s esi events tag pending rest) _ c.args.match_handler.now c.handle_matched_ids.new.handler c.complete.new.self.space (λ room rows. omega (arith, room rows, c.complete.ensures.room)) c.enter.new.self c.handle_matched_ids.ensures.called entered,
     ))
-    (subst (λ vm. OnOk c.answer.result (IsEntered c.complete.new.ctx.with_content c.complete.new.ctx.stack_item vm c.answer.new.self)) c.complete.ensures.kept c.answer.ensures.ok)
-    c.answer.ensures.within
+    (subst (λ vm. OnOk c.enter.result (IsEntered c.complete.new.ctx.with_content c.complete.new.ctx.stack_item vm c.enter.new.self)) c.complete.ensures.kept
+    (subst (λ (ctx : ExecutionCtx _). OnOk c.enter.result (IsEntered ctx.with_content ctx.stack_item c.complete.new.self c.enter.new.self)) c.handle_matched_ids.ensures.same c.enter.ensures.ok))
+    c.enter.ensures.within
 
 pub returns-clause-left : goal.returns-clause-left
 returns-clause-left g c =
-    on_err_weaker c.answer.result (opens_nothing_both (same_opens_nothing c.args.self.now (record c.args.self.now { tries = c.complete.new.self.tries; space = c.complete.new.self.space }) c.args.limiter.now refl refl))
-    (subst (λ vm. OnErr c.answer.result (OpensNothing None vm c.answer.new.self c.args.limiter.now c.answer.new.limiter)) c.complete.ensures.kept c.answer.ensures.left)
+    on_err_weaker c.enter.result (opens_nothing_both (same_opens_nothing c.args.self.now (record c.args.self.now { tries = c.complete.new.self.tries; space = c.complete.new.self.space }) c.args.limiter.now refl refl))
+    (subst (λ vm. OnErr c.enter.result (OpensNothing None vm c.enter.new.self c.args.limiter.now c.enter.new.limiter)) c.complete.ensures.kept c.enter.ensures.left)
 
 pub returns-clause-limited : goal.returns-clause-limited
 returns-clause-limited g c = λ limit.
-    let opens = c.answer.ensures.limited.0 limit in (
+    let opens = c.enter.ensures.limited.0 limit in (
       due_now g c opens.1,
-      λ s esi events tag pending rest. let all = told g c s esi events tag pending rest in (sym all.content ∙ opens.0, reported all c.answer.ensures.reported _ c.answer.ensures.tries),
+      λ s esi events tag pending rest. let all = told g c s esi events tag pending rest in (sym all.content ∙ content_here c.handle_matched_ids.ensures.same opens.0, reported all c.handle_matched_ids.ensures.called _ c.enter.ensures.tries),
     )
 
 pub returns-clause-no_memory : goal.returns-clause-no_memory
 returns-clause-no_memory g c = λ s esi events tag pending takes.
     let closed = finished_closed c.args.point (has_content esi tag) c.args.ctx.with_content c.args.aux_info.self_closing pending.context tag.namespace c.args.ctx.ns pending.goes_on takes.1 (sym pending.named.1) (void_is_closed esi tag takes.1 takes.2) in
-    c.answer.ensures.closed (c.complete.ensures.content ∙ (c.content_in.ensures ∙ closed))
+    c.enter.ensures.closed (content_there c.handle_matched_ids.ensures.same (c.complete.ensures.content ∙ (c.content_in.ensures ∙ closed)))
 
 pub returns-clause-tried : goal.returns-clause-tried
 returns-clause-tried g c = λ s esi events tag pending needs.
-    subst (IsTriedAtMost s esi events tag) (sym c.answer.ensures.tries) (tried g (goal.at.returns-clause-tried g c).After-complete s esi events tag pending needs)
+    subst (IsTriedAtMost s esi events tag) (sym c.enter.ensures.tries) (tried g (goal.at.returns-clause-tried g c).After-complete s esi events tag pending needs)
 
 pub returns-clause-due : goal.returns-clause-due
 returns-clause-due g c = λ error is due s esi events tag pending flat.
-    let opens = not_false c.complete.new.ctx.with_content (λ closed. err_is_not_ok c.answer.result (pushes.Memory error) is (c.answer.ensures.closed closed)) in
-    memory_instead c.answer.result error is (c.answer.ensures.limited.1 (opens, due_then g c due))
+    let opens = not_false c.complete.new.ctx.with_content (λ closed. err_is_not_ok c.enter.result (pushes.Memory error) is (c.enter.ensures.closed (content_there c.handle_matched_ids.ensures.same closed))) in
+    memory_instead c.enter.result error is (c.enter.ensures.limited.1 (content_there c.handle_matched_ids.ensures.same opens, due_then g c due))
 
 pub returns-clause-all_or_none : goal.returns-clause-all_or_none
 returns-clause-all_or_none g c = λ error is. inr (
-  λ s esi events tag pending rest. reported (told g c s esi events tag pending rest) c.answer.ensures.reported _ c.answer.ensures.tries,
+  λ s esi events tag pending rest. reported (told g c s esi events tag pending rest) c.handle_matched_ids.ensures.called _ c.enter.ensures.tries,
   λ due.
-      let opens = not_false c.complete.new.ctx.with_content (λ closed. err_is_not_ok c.answer.result (pushes.Memory error) is (c.answer.ensures.closed closed)) in
-      memory_instead c.answer.result error is (c.answer.ensures.limited.1 (opens, due_then g c due)),
+      let opens = not_false c.complete.new.ctx.with_content (λ closed. err_is_not_ok c.enter.result (pushes.Memory error) is (c.enter.ensures.closed (content_there c.handle_matched_ids.ensures.same closed))) in
+      memory_instead c.enter.result error is (c.enter.ensures.limited.1 (content_there c.handle_matched_ids.ensures.same opens, due_then g c due)),
 )
 
 pub returns-in-Err-clause-refused : goal.returns-in-Err-clause-refused

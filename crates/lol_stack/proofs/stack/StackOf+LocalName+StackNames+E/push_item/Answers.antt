@@ -22,14 +22,14 @@ returns-in-Err-add-clause-err g c =
       depths = c.in-Err-add.ensures.err;
     }
 
-pub returns-in-Err-push-clause-err : goal.returns-in-Err-push-clause-err
-returns-in-Err-push-clause-err g c =
+pub returns-in-Err-make_room-clause-err : goal.returns-in-Err-make_room-clause-err
+returns-in-Err-make_room-clause-err g c =
     let old = active_in c.args.self.now in
     record {
       root = refl;
-      items = c.in-Err-push.ensures.err;
+      items = c.in-Err-make_room.ensures.err;
       active =
-          c.truncate-in-Err-push.ensures
+          c.truncate-in-Err-make_room.ensures
           ∙ (ap (λ n. take n c.activate.new.self) c.len-active.ensures
           ∙ (ap (take (length old)) c.in_default.ensures.ok ∙ take-activated old c.len-depth.result c.as_slice-ranges.result.now));
       typed = refl;
