@@ -1,0 +1,13 @@
+pub mod TreeStates
+pub mod Scopes
+pub mod Insertions
+pub mod FormattingRules
+pub mod StartRules
+pub mod EndRules
+pub mod Doctypes
+pub mod Told
+pub mod TreeRows
+pub mod BodyRows
+pub mod ModeRows
+pub mod ForeignRows
+pub mod ToldRows

@@ -1,0 +1,4 @@
+//! What a browser's tree has of a page, told while the page streams.
+#![tactic(auto)]
+
+pub mod rows;
