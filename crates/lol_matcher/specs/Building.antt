@@ -13,13 +13,6 @@ use Rattle.lol_matcher.specs.Told.{Matching}
 use Rattle.lol_matcher.specs.declared.error.AddError.{AddError}
 use Rattle.lol_matcher.specs.declared.error.AddError.TheVariants.{Refused, Memory}
 
--- The tree of the selectors so far, the most bytes that may be charged, the bytes that an element is charged for, and the ESI switch.
-pub record Building : Type 0 where
-  pub ast : Ast
-  pub max_memory : ℕ
-  pub element_bytes : ℕ
-  pub esi : Bool
-
 -- A text is accepted, and its selectors were added under an id.
 pub record Adds (id : ℕ) (text : List ℕ) (old new : Ast) : Type 0 where
   pub items : Items
@@ -43,12 +36,12 @@ Refuses id text (Refused cause location) old new = IsRefused text (Refused cause
 Refuses id text Memory old new = KeepsPairs id text old new
 
 -- a matcher that was told of nothing yet
-abbrev pub started_with : {T : Type 0} → Building → Tries → Matching T
-started_with b tries =
+abbrev pub started_with : {T : Type 0} → Ast → ℕ → ℕ → Bool → Tries → Matching T
+started_with ast max_memory element_bytes esi tries =
     record {
-      told = record { ast = b.ast; esi = b.esi; events = []; asked = None };
-      max_memory = b.max_memory;
-      element_bytes = b.element_bytes;
+      told = record { ast = ast; esi = esi; events = []; asked = None };
+      max_memory = max_memory;
+      element_bytes = element_bytes;
       failed = false;
       matched = [];
       tries = tries;

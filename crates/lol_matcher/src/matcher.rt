@@ -11,7 +11,7 @@ use crate::tags::{Answered, drop_request, end_tag, finish_tag, replace_value, st
 use lol_base::{AuxStartTagInfo, Namespace};
 use lol_machine::{AuxStartTagInfoRequest, SelectorMatchingVm};
 use lol_memory::{MatchId, MatchInfo, SharedMemoryLimiter};
-use lol_program::{Ast, Tries};
+use lol_program::Ast;
 use lol_reasons::{Explainer, Reason};
 use std::alloc::{AllocError, Global};
 use std::marker::Model;
@@ -85,7 +85,7 @@ impl<T: Drop> Drop for Matcher<T> {
 
 impl Matcher {
     ghost use Rattle.std.specs.Prelude.{◌≡◌, [], false};
-    ghost use Rattle.lol_program.specs.Asts.{is_with_rows, pairs_of, nodes_of};
+    ghost use Rattle.lol_program.specs.Asts.{pairs_of, nodes_of, is_with_rows};
 
     /// A builder with no selectors, no bound on memory, 64 bytes for each open element, and ESI's names as others.
     pub fn builder(alloc: Global) -> MatcherBuilder
@@ -93,10 +93,16 @@ impl Matcher {
         ensures nodes { nodes_of result.ast ≡ [] }
         ensures memory { result.max_memory ≡ usize.MAX }
         ensures bytes { result.element_bytes ≡ 64 }
-        ensures esi { result.esi ≡ false }
+        ensures esi { result.enable_esi_tags ≡ false }
         ensures rows { is_with_rows result.ast ≡ false }
     {
-        MatcherBuilder::new(alloc)
+        MatcherBuilder {
+            alloc,
+            ast: Ast::new(alloc),
+            max_memory: usize::MAX,
+            element_bytes: 64,
+            enable_esi_tags: false,
+        }
     }
 }
 
@@ -106,7 +112,7 @@ impl<T: Drop> Matcher<T> {
     ghost use Rattle.lol_instructions.specs.Tries.{names_counted, attributes_counted};
     ghost use Rattle.lol_stack.specs.Calls.{IsCalledAtEach};
     ghost use Rattle.lol_matcher.specs.Answering.{AnswersStart, IfWaits, IsAnsweredAfter, IsFinishedAs, OpensFor, OpensStart, last_value, reported_in, told_after, refused_with, with_ended, with_told, with_value};
-    ghost use Rattle.lol_matcher.specs.Building.{Building, started_with};
+    ghost use Rattle.lol_matcher.specs.Building.{started_with};
     ghost use Rattle.lol_matcher.specs.Explaining.{AreNumbered, ForTexts, ids_with_reasons, reasons_told};
     ghost use Rattle.lol_matcher.specs.Keeping.{IsRefusal};
     ghost use Rattle.lol_matcher.specs.Last.{HasTries, last_answer, last_opens, matches_in};
@@ -117,7 +123,7 @@ impl<T: Drop> Matcher<T> {
     ghost use Rattle.lol_machine.specs.Documents.{index_of, inner_part};
     ghost use Rattle.lol_machine.specs.ReportRoom.{HoldsEachReport};
     ghost use Rattle.lol_machine.specs.Views.{match_of, selectors};
-    ghost use Rattle.lol_machine.specs.Vms.{IsTriedAtMost, Stands, data_in, is_asked_for, open_after};
+    ghost use Rattle.lol_machine.specs.Vms.{IsTriedAtMost, Stands, data_in, is_asked_for, open_after, tries_in};
 
     /// A matcher for the selectors of a tree.
     pub(crate) fn new(
@@ -130,9 +136,8 @@ impl<T: Drop> Matcher<T> {
         requires { 1 ≤ element_bytes }
         ensures tries { IfOk result (λ matcher.
             (names_counted matcher.tries ≡ 0) × (attributes_counted matcher.tries ≡ 0)) }
-        ensures told { IfOk result (λ matcher. matcher ≡ started_with
-            (record { ast = ast; max_memory = max_memory; element_bytes = element_bytes; esi = enable_esi_tags })
-            matcher.tries) }
+        ensures told { IfOk result (λ matcher. matcher
+            ≡ started_with ast max_memory element_bytes enable_esi_tags matcher.tries) }
     {
         run_laws::<OpenElement<T>>();
         let past = Past::new(&ast, &enable_esi_tags);
@@ -163,20 +168,14 @@ impl<T: Drop> Matcher<T> {
         &self.matches
     }
 
-    /// How many nodes were tried for the last start tag that wasn't answered `Failed`, its finishing included.
-    pub fn tries(&self) -> Tries
-        ensures tries { result ≡ self.now.tries }
-        ensures answered { self.now.failed ≡ false
-            → HasTries (last_answer (selectors self.now.told.ast) self.now.told) result }
-    {
-        self.vm.tries()
-    }
-
     /// The machine, to be looked at: until a tag is refused it stands for what was told, a start tag that waits as dropped.
     pub fn machine(&self) -> &SelectorMatchingVm<OpenElement<T>>
         ensures stands { self.now.failed ≡ false
             → Stands (selectors self.now.told.ast) self.now.told.esi result.now (heard self.now.told) }
         ensures kept { data_in result.now ≡ self.now.kept }
+        ensures tries { tries_in result.now ≡ self.now.tries }
+        ensures tried { self.now.failed ≡ false
+            → HasTries (last_answer (selectors self.now.told.ast) self.now.told) (tries_in result.now) }
     {
         &self.vm
     }

@@ -44,7 +44,7 @@ told_event (End name) = End name
 
 -- It was told nothing yet.
 abbrev pub IsNewMatcher : Ast → ℕ → Bool → Matching (Unit {0}) → Type 0
-IsNewMatcher ast limit esi m = m ≡ started_with (record { ast = ast; max_memory = limit; element_bytes = 64; esi = esi }) m.tries
+IsNewMatcher ast limit esi m = m ≡ started_with ast limit 64 esi m.tries
 
 -- what is answered to the last start tag
 abbrev pub answer_with : outcome.Outcome → Matching (Unit {0}) → Answer

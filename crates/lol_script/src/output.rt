@@ -170,9 +170,8 @@ fn push_digits(text: &mut Vec<u8>, number: u64) -> Result<(), AllocError>
     ensures { OnOk result (text.new.items ≡ text.old.items ++ decimal number) }
 {
     if number < 100 {
-        text.push(b'0' + (number / 10) as u8)?;
-        text.push(b'0' + (number % 10) as u8)?;
-        return Ok(());
+        let digits = [b'0' + (number / 10) as u8, b'0' + (number % 10) as u8];
+        return text.extend_from_slice(&digits);
     }
     let mut buffer = Buffer::new();
     text.extend_from_slice(buffer.format(number).as_bytes())

@@ -162,7 +162,7 @@ impl ScriptRun {
             (names_counted self.now.matcher.tries) (attributes_counted self.now.matcher.tries) }
     {
         if self.shows_tries {
-            Some(self.matcher.tries())
+            Some(self.matcher.machine().tries())
         } else {
             None
         }
@@ -234,9 +234,9 @@ fn matcher_of(alloc: Global, ast: Ast, limit: u64, esi: bool) -> Result<Matcher,
     ensures { IfOk result (IsNewMatcher ast limit esi) }
 {
     let mut settings = Matcher::builder(alloc);
-    settings.set_tree(ast);
-    settings.max_memory(limit as usize);
-    settings.enable_esi_tags(esi);
+    settings.ast = ast;
+    settings.max_memory = limit as usize;
+    settings.enable_esi_tags = esi;
     settings.build()
 }
 
@@ -268,6 +268,7 @@ fn new_matcher(
 }
 
 /// Tells a matcher of a start tag, whose attributes are handed over if its line says so.
+#[inline(always)]
 fn answer_start(
     matcher: &mut Matcher,
     line: StartLine<'_>,

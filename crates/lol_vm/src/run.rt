@@ -187,10 +187,10 @@ fn new_matcher(
     ensures { IfOk result (λ matcher. WasTold ast enable_esi_tags (allowance item_bytes max_memory) [] matcher) }
 {
     let mut builder = Matcher::builder(alloc);
-    builder.set_tree(ast);
-    builder.max_memory(max_memory);
-    builder.element_bytes(item_bytes);
-    builder.enable_esi_tags(enable_esi_tags);
+    builder.ast = ast;
+    builder.max_memory = max_memory;
+    builder.element_bytes = item_bytes;
+    builder.enable_esi_tags = enable_esi_tags;
     builder.build()
 }
 
@@ -284,7 +284,7 @@ fn report_of(alloc: Global, matcher: &Matcher, asked: bool) -> Result<TagReport,
         Ok(matched) => Ok(TagReport::Started {
             asked,
             matched,
-            tries: matcher.tries(),
+            tries: matcher.machine().tries(),
         }),
         Err(_) => Err(MatcherError::Memory),
     }

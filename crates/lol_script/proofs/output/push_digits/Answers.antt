@@ -7,4 +7,4 @@ two_digits : (n : ℕ) → 10 ≤ n → n < 100 → decimal n ≡ (48 + n / 10) 
 two_digits n low high = decimal_step n low (omega arith) ∙ ap (λ ds. ds ++ (48 + n % 10) ∷ []) (decimal_digit (n / 10) (omega arith))
 
 pub returns-then-number-lt100 : goal.returns-then-number-lt100
-returns-then-number-lt100 c = let digits = two_digits c.args.number c.requires c.if-number-lt100.true in search (rules, append_assoc)
+returns-then-number-lt100 c = let digits = two_digits c.args.number c.requires c.if-number-lt100.true in search (rules, digits)
