@@ -1,7 +1,6 @@
 pub mod Boxes
 pub mod AsBox
 pub mod Statuses
-pub mod Buffers
 pub mod Closings
 pub mod ReasonTables
 pub mod Finishes

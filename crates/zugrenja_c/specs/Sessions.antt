@@ -1,5 +1,5 @@
 -- What a handle stands for, and how a matcher is made.
-use Rattle.std.specs.Prelude.{ℕ, ◌≡◌, ◌<◌, ◌+◌, ◌||◌, nat_le, if◌then◌else◌, length, map, max, Bool, true, false, List, [], ◌∷◌, ◌++◌, ◌↔◌, Option, Some, None, Result, Ok, Err, IsSomeAnd}
+use Rattle.std.specs.Prelude.{ℕ, ◌≡◌, ◌||◌, nat_le, length, max, Bool, true, false, List, [], ◌∷◌, ◌++◌, ◌↔◌, Option, Some, None, Result, Ok, Err, IsSomeAnd}
 use Rattle.lol_css.specs.Accepting.{accept}
 use Rattle.lol_css.specs.Trees.{Items}
 use Rattle.lol_css.specs.declared.error.ErrorLocation.{ErrorLocation}
@@ -9,8 +9,8 @@ use Rattle.lol_program.specs.Asts.{pairs_of, nodes_of, is_with_rows}
 use Rattle.lol_reasons.specs.Numbered.{HasItemsOf, texts_in}
 use Rattle.lol_reasons.specs.declared.texts.Texts.{Texts}
 use Rattle.lol_machine.specs.Views.{selectors}
-use Rattle.lol_matcher.specs.Building.{Adds, Building, IsRefused, KeepsPairs, started_with}
-use Rattle.lol_matcher.specs.Explaining.{ids_with_reasons}
+use Rattle.lol_matcher.specs.Building.{Adds, IsRefused, KeepsPairs, started_with}
+use Rattle.lol_matcher.specs.declared.builder.MatcherBuilder.{MatcherBuilder}
 use Rattle.lol_matcher.specs.Told.{Matching}
 use Rattle.lol_matcher.specs.declared.error.AddError.{AddError}
 use Rattle.lol_matcher.specs.declared.error.AddError.TheVariants.{Refused, Memory}
@@ -25,31 +25,23 @@ use Rattle.zugrenja_c.specs.declared.session.Session.TheVariants as session
 
 -- There is a matcher to which selectors are added, and this holds of it.
 abbrev pub IsAdding : Option Session → (Adding → Type 0) → Type 0
-IsAdding None holds = ⊥
 IsAdding (Some (session.Adding b)) holds = holds b
-IsAdding (Some (session.Matching r)) holds = ⊥
-
--- If there is one, this holds of it.
-abbrev pub IfAdding : Option Session → (Adding → Type 0) → Type 0
-IfAdding None holds = Unit {0}
-IfAdding (Some (session.Adding b)) holds = holds b
-IfAdding (Some (session.Matching r)) holds = Unit {0}
+IsAdding s holds = ⊥
 
 -- There is a matcher which is told of tags, and this holds of it.
 abbrev pub IsMatching : Option Session → (Run → Type 0) → Type 0
-IsMatching None holds = ⊥
-IsMatching (Some (session.Adding b)) holds = ⊥
 IsMatching (Some (session.Matching r)) holds = holds r
+IsMatching s holds = ⊥
 
 -- If there is one, this holds of it.
 abbrev pub IfMatching : Option Session → (Run → Type 0) → Type 0
-IfMatching None holds = Unit {0}
-IfMatching (Some (session.Adding b)) holds = Unit {0}
 IfMatching (Some (session.Matching r)) holds = holds r
+IfMatching s holds = Unit {0}
 
 -- If selectors are added before a call, they are after it, and this holds of the two.
 abbrev pub StaysAdding : Option Session → Option Session → (Adding → Adding → Type 0) → Type 0
-StaysAdding old new holds = IfAdding old (λ b. IsAdding new (λ c. holds b c))
+StaysAdding (Some (session.Adding b)) new holds = IsAdding new (λ c. holds b c)
+StaysAdding old new holds = Unit {0}
 
 -- If a matcher is told of tags before a call, it is after it, with the same texts, and this holds of the two.
 abbrev pub StaysMatching : Option Session → Option Session → (Run → Run → Type 0) → Type 0
@@ -76,11 +68,11 @@ pub record IsFresh (explains : Bool) (max_memory element_bytes esi : ℕ) (b : A
   pub nodes : nodes_of b.settings.ast ≡ []
   pub memory : b.settings.max_memory ≡ max_memory
   pub bytes : b.settings.element_bytes ≡ max element_bytes 1
-  pub void : (b.settings.esi ≡ false) ↔ (esi ≡ 0)
+  pub void : (b.settings.enable_esi_tags ≡ false) ↔ (esi ≡ 0)
   pub texts : HasNoTexts explains b.texts
 
 -- settings with the selectors of others
-abbrev pub with_tree : Building → Building → Building
+abbrev pub with_tree : MatcherBuilder → MatcherBuilder → MatcherBuilder
 with_tree settings other = record settings { ast = other.ast }
 
 -- An accepted text comes: its selectors under its id or, where texts are kept, the text itself.
@@ -130,7 +122,7 @@ pub record HasRowsFrom (fewest : ℕ) (old new : Adding) : Type 0 where
   pub rest : new ≡ record old { settings = with_tree old.settings new.settings }
 
 -- A matcher has the selectors that were added or, where texts were, their items, each under its number.
-abbrev pub HasSelectorsOf : Option Texts → Building → Matching ℕ → Type 0
+abbrev pub HasSelectorsOf : Option Texts → MatcherBuilder → Matching ℕ → Type 0
 HasSelectorsOf None settings m = m.told.ast ≡ settings.ast
 HasSelectorsOf (Some texts) settings m = HasItemsOf (texts_in texts) (selectors m.told.ast)
 
@@ -138,5 +130,5 @@ HasSelectorsOf (Some texts) settings m = HasItemsOf (texts_in texts) (selectors 
 pub record IsBuiltFrom (b : Adding) (r : Run) : Type 0 where
   pub texts : r.texts ≡ b.texts
   pub has_selectors : HasSelectorsOf b.texts b.settings r.matcher
-  pub told : r.matcher ≡ started_with (record b.settings { ast = r.matcher.told.ast }) r.matcher.tries
+  pub told : r.matcher ≡ started_with r.matcher.told.ast b.settings.max_memory (max b.settings.element_bytes 1) b.settings.enable_esi_tags r.matcher.tries
   pub untried : (names_counted r.matcher.tries ≡ 0) × (attributes_counted r.matcher.tries ≡ 0)

@@ -17,8 +17,8 @@ use std::alloc::Global;
 /// Selectors and settings and, if the matcher will explain, its texts.
 #[derive(Drop)]
 pub struct Adding {
-    settings: MatcherBuilder,
-    texts: Option<Texts>,
+    pub(crate) settings: MatcherBuilder,
+    pub(crate) texts: Option<Texts>,
 }
 
 impl Adding {
@@ -33,22 +33,15 @@ impl Adding {
         ensures { IsFresh explains max_memory element_bytes esi result }
     {
         let mut settings = Matcher::builder(alloc);
-        settings.max_memory(max_memory);
-        settings.element_bytes(element_bytes);
-        settings.enable_esi_tags(esi != 0);
+        settings.max_memory = max_memory;
+        settings.element_bytes = element_bytes.max(1);
+        settings.enable_esi_tags = esi != 0;
         let texts = if explains {
             Some(Texts::new(alloc))
         } else {
             None
         };
         Adding { settings, texts }
-    }
-
-    /// Whether the matcher will explain.
-    pub(crate) fn explains(&self) -> bool
-        ensures { result ≡ is_some self.now.texts }
-    {
-        self.texts.is_some()
     }
 
     /// Adds the selectors of a text under an id.
@@ -69,13 +62,6 @@ impl Adding {
         }
     }
 
-    /// Has the matcher spare nodes by rows if so many were added. It doesn't explain.
-    pub(crate) fn with_rows(&mut self, fewest: usize)
-        ensures { self.old.texts ≡ None → HasRowsFrom fewest self.old self.new }
-    {
-        self.settings.with_rows_from(fewest);
-    }
-
     /// The matcher.
     pub(crate) fn build(self, alloc: Global) -> Result<Running, NumberingError>
         ensures built { IfOk result (λ running. IsBuiltFrom self running) }
@@ -87,11 +73,11 @@ impl Adding {
             texts,
         } = self;
         let Some(texts) = texts else {
-            return Ok(Running::plain(settings.build_with_values()?));
+            return Ok(Running::plain(settings.build()?));
         };
         let numbering = texts.number_items()?;
-        settings.set_tree(numbering.ast);
-        let matcher = settings.build_with_values()?;
+        settings.ast = numbering.ast;
+        let matcher = settings.build()?;
         Running::explaining(alloc, matcher, texts, numbering.explainer)
     }
 }

@@ -5,10 +5,12 @@ ghost use Rattle.zugrenja_c.specs.Numbers.{IsOneOf};
 ghost use Rattle.zugrenja_c.specs.Reasons.{WritesLines, WritesReasons};
 ghost use Rattle.zugrenja_c.specs.Sessions.{IsAdding, IsFresh, IsMatching, IsUnbuilt};
 
+use crate::adding::Adding;
+use crate::buffers::overwrite;
 use crate::handle::Handle;
-use crate::making::begin;
-use crate::reasons::ReasonPlace;
-use crate::status::NO_MATCHER;
+use crate::reasons::{ReasonPlace, ReasonTable, lines_of};
+use crate::session::Session;
+use crate::status::{GOOD, IN_USE, NO_MATCHER, NOT_BUILT, NOT_EXPLAINING, OUT_OF_MEMORY};
 use std::alloc::Global;
 
 /// As `zugrenja_new`, but the matcher explains.
@@ -26,7 +28,15 @@ pub extern "C" fn zugrenja_new_explaining(
     ensures unchanged { result ≢ 0 → handle.new.slot.value ≡ handle.old.slot.value }
     ensures statuses { IsOneOf (0 ∷ 4 ∷ 6 ∷ []) result }
 {
-    begin(alloc, handle, true, max_memory, element_bytes, esi)
+    if handle.is_live() {
+        return IN_USE;
+    }
+    let adding = Adding::new(alloc, true, max_memory, element_bytes, esi);
+    let Ok(session) = Box::new(alloc, Session::Adding(adding)) else {
+        return OUT_OF_MEMORY;
+    };
+    handle.put(session);
+    GOOD
 }
 
 /// Why the last tag was reported: a reason for each item that matches its element, in the order of adding and of the list. With it come the
@@ -54,11 +64,24 @@ pub extern "C" fn zugrenja_explain(
 {
     *reasons_count = 0;
     *numbers_count = 0;
-    if !handle.is_live() {
+    let Some(session) = handle.take(alloc) else {
         return NO_MATCHER;
-    }
-    let session = handle.take(alloc);
-    let status = session.explain(alloc, reasons, numbers, reasons_count, numbers_count);
+    };
+    let status = match &*session {
+        Session::Adding(_) => NOT_BUILT,
+        Session::Matching(running) => match running.reasons(alloc) {
+            Ok(Some(told)) => match ReasonTable::of(alloc, &told) {
+                Ok(table) => {
+                    *reasons_count = overwrite(&table.places, reasons);
+                    *numbers_count = overwrite(&table.numbers, numbers);
+                    GOOD
+                }
+                Err(_) => OUT_OF_MEMORY,
+            },
+            Ok(None) => NOT_EXPLAINING,
+            Err(_) => OUT_OF_MEMORY,
+        },
+    };
     handle.put(session);
     status
 }
@@ -83,11 +106,23 @@ pub extern "C" fn zugrenja_explain_text(
     ensures same { handle.new.slot.value ≡ handle.old.slot.value }
 {
     *written = 0;
-    if !handle.is_live() {
+    let Some(session) = handle.take(alloc) else {
         return NO_MATCHER;
-    }
-    let session = handle.take(alloc);
-    let status = session.explain_text(alloc, out, written);
+    };
+    let status = match &*session {
+        Session::Adding(_) => NOT_BUILT,
+        Session::Matching(running) => match running.reasons(alloc) {
+            Ok(Some(told)) => match lines_of(alloc, &told) {
+                Ok(lines) => {
+                    *written = overwrite(&lines, out);
+                    GOOD
+                }
+                Err(_) => OUT_OF_MEMORY,
+            },
+            Ok(None) => NOT_EXPLAINING,
+            Err(_) => OUT_OF_MEMORY,
+        },
+    };
     handle.put(session);
     status
 }

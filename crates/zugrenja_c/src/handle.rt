@@ -1,6 +1,6 @@
 //! A session behind a handle that C keeps.
 
-ghost use Rattle.std.specs.Prelude.{◌≡◌, true, false, Option, Some, None, is_some};
+ghost use Rattle.std.specs.Prelude.{◌≡◌, true, false, Option, Some, None, is_some, option_map};
 ghost use Rattle.std.specs.Coded.{coded_option};
 ghost use Rattle.zugrenja_c.specs.declared.session.Session.{Session};
 ghost use Rattle.zugrenja_c.specs.contracts.session.Session.{the_row};
@@ -36,22 +36,8 @@ impl Slot {
         }
     }
 
-    /// A slot of this session.
-    pub fn of(session: Box<Session>) -> Slot
-        ensures { result.value ≡ Some session.value }
-    {
-        Slot::of_raw(RawBox::of(session))
-    }
-
-    /// The session.
-    pub fn into_box(self) -> Box<Session>
-        requires { is_some self.value ≡ true }
-        ensures { Some result.value ≡ self.value }
-    {
-        self.into_raw().into_box()
-    }
-
-    fn of_raw(raw: RawBox<Session, Global>) -> Slot
+    /// A slot of the session of a box.
+    pub fn of_raw(raw: RawBox<Session, Global>) -> Slot
         ensures { result.value ≡ Some raw.value }
     {
         let RawBox { at, alloc } = raw;
@@ -61,7 +47,8 @@ impl Slot {
         }
     }
 
-    fn into_raw(self) -> RawBox<Session, Global>
+    /// The box of the session.
+    pub fn into_raw(self) -> RawBox<Session, Global>
         requires { is_some self.value ≡ true }
         ensures { Some result.value ≡ self.value }
     {
@@ -89,26 +76,6 @@ pub struct Handle {
 }
 
 impl Handle {
-    /// A handle of this session.
-    pub fn of(session: Box<Session>) -> Handle
-        ensures { result.slot.value ≡ Some session.value }
-    {
-        Handle {
-            slot: Slot::of(session),
-            live: true,
-        }
-    }
-
-    /// A handle of no session.
-    pub fn empty(alloc: Global) -> Handle
-        ensures { result.slot.value ≡ None }
-    {
-        Handle {
-            slot: Slot::empty(alloc),
-            live: false,
-        }
-    }
-
     /// Whether there is a session.
     pub fn is_live(&self) -> bool
         ensures { result ≡ is_some self.now.slot.value }
@@ -116,14 +83,22 @@ impl Handle {
         self.live
     }
 
-    /// Takes the session out.
-    pub fn take(&mut self, alloc: Global) -> Box<Session>
-        requires { is_some self.old.slot.value ≡ true }
-        ensures taken { self.old.slot.value ≡ Some result.value }
+    /// Takes the session out, if there is one.
+    pub fn take(&mut self, alloc: Global) -> Option<Box<Session>>
+        ensures taken { self.old.slot.value ≡ option_map (λ session. session.value) result }
         ensures after { self.new.slot.value ≡ None }
     {
-        let Handle { slot, live: _ } = mem::replace(self, Handle::empty(alloc));
-        slot.into_box()
+        let none = Handle {
+            slot: Slot::empty(alloc),
+            live: false,
+        };
+        let Handle { slot, live } = mem::replace(self, none);
+        if live {
+            Some(slot.into_raw().into_box())
+        } else {
+            slot.forget();
+            None
+        }
     }
 
     /// Puts a session in.
@@ -131,7 +106,11 @@ impl Handle {
         requires { self.old.slot.value ≡ None }
         ensures { self.new.slot.value ≡ Some session.value }
     {
-        let Handle { slot, live: _ } = mem::replace(self, Handle::of(session));
+        let some = Handle {
+            slot: Slot::of_raw(RawBox::of(session)),
+            live: true,
+        };
+        let Handle { slot, live: _ } = mem::replace(self, some);
         slot.forget();
     }
 }

@@ -3,6 +3,7 @@
 
 mod adding;
 mod attribute_places;
+mod buffers;
 mod closing;
 mod explanations;
 mod handle;
@@ -20,6 +21,7 @@ ghost use Rattle.std.specs.Prelude.{◌≡◌, ◌≢◌, length};
 ghost use Rattle.lol_script.specs.Scripts.{output};
 ghost use Rattle.zugrenja_c.specs.Numbers.{overwritten, status_number};
 
+use crate::buffers::overwrite;
 use crate::status::OUT_OF_MEMORY;
 use lol_script::{Counted, Status, run};
 use std::alloc::Global;
@@ -57,9 +59,6 @@ pub extern "C" fn zugrenja_run_script(
     let Ok(status) = run(alloc, &mut reader, &mut writer) else {
         return OUT_OF_MEMORY;
     };
-    let text = writer.into_inner();
-    let fitting = text.len().min(out.len());
-    out[..fitting].copy_from_slice(&text[..fitting]);
-    *written = text.len();
+    *written = overwrite(&writer.into_inner(), out);
     number_of(status)
 }

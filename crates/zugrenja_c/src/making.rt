@@ -5,13 +5,19 @@ ghost use Rattle.std.specs.Str.{IsUtf8};
 ghost use Rattle.lol_reasons.specs.Explanations.{added_by};
 ghost use Rattle.lol_reasons.specs.Numbered.{texts_in};
 ghost use Rattle.zugrenja_c.specs.Numbers.{IsOneOf};
-ghost use Rattle.zugrenja_c.specs.Sessions.{AddsText, HasRowsFrom, IsAdding, IsBuilt, IsBuiltFrom, IsFresh, IsMatching, IsNotAccepted, IsUnbuilt, StaysAdding};
+ghost use Rattle.zugrenja_c.specs.Sessions.{AddsText, HasRowsFrom, IsAddedAs, IsAdding, IsBuilt, IsBuiltFrom, IsFresh, IsMatching, IsNotAccepted, IsUnbuilt, StaysAdding};
 
 use crate::adding::Adding;
 use crate::handle::Handle;
 use crate::session::Session;
-use crate::status::{GOOD, IN_USE, NO_MATCHER, OUT_OF_MEMORY, Refusal, TOO_MANY_ITEMS};
+use crate::status::{
+    BUILT, EXPLAINS, GOOD, IN_USE, NO_MATCHER, NOT_ACCEPTED, NOT_UTF8, OUT_OF_MEMORY, Refusal,
+    TOO_MANY_ITEMS,
+};
+use lol_matcher::{AddError, NumberingError};
+use lol_program::Ast;
 use std::alloc::Global;
+use std::{mem, str};
 
 /// Makes a matcher without selectors, in a handle that has none: open elements may be charged for `max_memory` bytes, each for
 /// `element_bytes`, and with an `esi` other than 0 the two void names of Edge Side Includes are void.
@@ -29,35 +35,15 @@ pub extern "C" fn zugrenja_new(
     ensures unchanged { result ≢ 0 → handle.new.slot.value ≡ handle.old.slot.value }
     ensures statuses { IsOneOf (0 ∷ 4 ∷ 6 ∷ []) result }
 {
-    begin(alloc, handle, false, max_memory, element_bytes, esi)
-}
-
-/// Puts a matcher without selectors into a handle that has none.
-pub(crate) fn begin(
-    alloc: Global,
-    handle: &mut Handle,
-    explains: bool,
-    max_memory: usize,
-    element_bytes: usize,
-    esi: u32,
-) -> u32
-    ensures made { result ≡ 0 → IsAdding handle.new.slot.value (λ b.
-        IsFresh explains max_memory element_bytes esi b) }
-    ensures in_use { (result ≡ 6) ↔ (is_some handle.old.slot.value ≡ true) }
-    ensures unchanged { result ≢ 0 → handle.new.slot.value ≡ handle.old.slot.value }
-    ensures statuses { IsOneOf (0 ∷ 4 ∷ 6 ∷ []) result }
-{
     if handle.is_live() {
         return IN_USE;
     }
-    let adding = Adding::new(alloc, explains, max_memory, element_bytes, esi);
-    match Box::new(alloc, Session::Adding(adding)) {
-        Ok(session) => {
-            handle.put(session);
-            GOOD
-        }
-        Err(_) => OUT_OF_MEMORY,
-    }
+    let adding = Adding::new(alloc, false, max_memory, element_bytes, esi);
+    let Ok(session) = Box::new(alloc, Session::Adding(adding)) else {
+        return OUT_OF_MEMORY;
+    };
+    handle.put(session);
+    GOOD
 }
 
 /// Adds the selectors of a text, a list of them with commas, under an id. `refusal` is written only if the text isn't accepted.
@@ -79,13 +65,32 @@ pub extern "C" fn zugrenja_add(
     ensures unchanged { result ≢ 0 → result ≢ 4 → handle.new.slot.value ≡ handle.old.slot.value }
     ensures untouched { result ≢ 10 → refusal.new ≡ refusal.old }
 {
-    if !handle.is_live() {
+    let Some(mut session) = handle.take(alloc) else {
         return NO_MATCHER;
-    }
-    let mut session = handle.take(alloc);
-    let status = session.add(alloc, id, text, refusal);
+    };
+    let status = match &mut *session {
+        Session::Adding(adding) => match str::from_utf8(text) {
+            Ok(text) => status_of(adding.add(alloc, id, text), refusal),
+            Err(_) => NOT_UTF8,
+        },
+        Session::Matching(_) => BUILT,
+    };
     handle.put(session);
     status
+}
+
+/// The status of a text that was added, or wasn't; then why it isn't accepted is written.
+fn status_of(added: Result<(), AddError>, refusal: &mut Refusal) -> u32
+    ensures { IsAddedAs added result refusal.old refusal.new }
+{
+    match added {
+        Ok(()) => GOOD,
+        Err(AddError::Memory) => OUT_OF_MEMORY,
+        Err(AddError::Refused { cause, location }) => {
+            *refusal = Refusal::of(cause, location);
+            NOT_ACCEPTED
+        }
+    }
 }
 
 /// Has the matcher spare the nodes that a tag's name, id, classes and attributes rule out, if at least `fewest` were added: always with 0,
@@ -101,11 +106,21 @@ pub extern "C" fn zugrenja_with_rows(alloc: Global, handle: &mut Handle, fewest:
     ensures statuses { IsOneOf (0 ∷ 5 ∷ 8 ∷ 21 ∷ []) result }
     ensures unchanged { result ≢ 0 → handle.new.slot.value ≡ handle.old.slot.value }
 {
-    if !handle.is_live() {
+    let Some(mut session) = handle.take(alloc) else {
         return NO_MATCHER;
-    }
-    let mut session = handle.take(alloc);
-    let status = session.with_rows(fewest);
+    };
+    let status = match &mut *session {
+        Session::Adding(adding) => {
+            if adding.texts.is_some() {
+                EXPLAINS
+            } else {
+                let ast = mem::replace(&mut adding.settings.ast, Ast::new(alloc));
+                adding.settings.ast = ast.with_rows_from(fewest);
+                GOOD
+            }
+        }
+        Session::Matching(_) => BUILT,
+    };
     handle.put(session);
     status
 }
@@ -124,15 +139,23 @@ pub extern "C" fn zugrenja_build(alloc: Global, handle: &mut Handle) -> u32
     ensures statuses { IsOneOf (0 ∷ 4 ∷ 5 ∷ 8 ∷ 20 ∷ []) result }
     ensures unchanged { result ≢ 0 → result ≢ 4 → result ≢ 20 → handle.new.slot.value ≡ handle.old.slot.value }
 {
-    if !handle.is_live() {
+    let Some(mut session) = handle.take(alloc) else {
         return NO_MATCHER;
-    }
-    let mut session = handle.take(alloc);
-    let status = session.build(alloc);
-    if status != OUT_OF_MEMORY && status != TOO_MANY_ITEMS {
+    };
+    let Session::Adding(adding) = &mut *session else {
         handle.put(session);
+        return BUILT;
+    };
+    let adding = mem::replace(adding, Adding::new(alloc, false, 0, 1, 0));
+    match adding.build(alloc) {
+        Ok(running) => {
+            *session = Session::Matching(running);
+            handle.put(session);
+            GOOD
+        }
+        Err(NumberingError::TooManyItems) => TOO_MANY_ITEMS,
+        Err(NumberingError::Memory) => OUT_OF_MEMORY,
     }
-    status
 }
 
 /// Frees the matcher of a handle, which is as zeros then.
@@ -142,9 +165,8 @@ pub extern "C" fn zugrenja_free(alloc: Global, handle: &mut Handle) -> u32
     ensures status { (result ≡ 0) ↔ (is_some handle.old.slot.value ≡ true) }
     ensures no_matcher { (result ≡ 5) ↔ (handle.old.slot.value ≡ None) }
 {
-    if !handle.is_live() {
-        return NO_MATCHER;
+    match handle.take(alloc) {
+        Some(_) => GOOD,
+        None => NO_MATCHER,
     }
-    drop(handle.take(alloc));
-    GOOD
 }

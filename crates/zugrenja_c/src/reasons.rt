@@ -3,7 +3,6 @@
 ghost use Rattle.std.specs.Prelude.{◌≡◌, ◌∷◌, [], ◌++◌, List, IfOk, OnOk, length, map, reverse};
 ghost use Rattle.lol_reasons.specs.Explanations as shown;
 ghost use Rattle.lol_reasons.specs.Numbered.{reason_shown};
-ghost use Rattle.zugrenja_c.specs.Numbers.{overwritten};
 ghost use Rattle.zugrenja_c.specs.Reasons.{HasReasons, lines_of_reasons};
 
 use lol_matcher::Reason;
@@ -29,8 +28,8 @@ pub struct ReasonPlace {
 /// Reasons, and the numbers of their start tags, reason after reason, each time the outermost first.
 #[derive(Drop)]
 pub(crate) struct ReasonTable {
-    places: Vec<ReasonPlace>,
-    numbers: Vec<usize>,
+    pub(crate) places: Vec<ReasonPlace>,
+    pub(crate) numbers: Vec<usize>,
 }
 
 impl ReasonTable {
@@ -63,34 +62,15 @@ impl ReasonTable {
         add_outermost_first(&mut self.numbers, &reason.witness)?;
         Ok(())
     }
-
-    /// How many reasons there are, and how many numbers.
-    pub(crate) fn counts(&self) -> (usize, usize)
-        ensures places { result.0 ≡ length self.now.places.items }
-        ensures numbers { result.1 ≡ length self.now.numbers.items }
-    {
-        (self.places.len(), self.numbers.len())
-    }
-
-    /// Writes both, each as far as there is room.
-    pub(crate) fn write(&self, reasons: &mut [ReasonPlace], numbers: &mut [usize])
-        ensures reasons { reasons.new ≡ overwritten self.now.places.items reasons.old }
-        ensures numbers { numbers.new ≡ overwritten self.now.numbers.items numbers.old }
-    {
-        let fitting = self.places.len().min(reasons.len());
-        reasons[..fitting].copy_from_slice(&self.places[..fitting]);
-        let fitting = self.numbers.len().min(numbers.len());
-        numbers[..fitting].copy_from_slice(&self.numbers[..fitting]);
-    }
 }
 
 /// Adds numbers, the last of them first.
 fn add_outermost_first(numbers: &mut Vec<usize>, witness: &[usize]) -> Result<(), AllocError>
     ensures { OnOk result (numbers.new.items ≡ numbers.old.items ++ reverse witness.now) }
 {
-    for number in witness.iter().rev() {
-        numbers.push(*number)?;
-    }
+    let start = numbers.len();
+    numbers.extend_from_slice(witness)?;
+    numbers[start..].reverse();
     Ok(())
 }
 

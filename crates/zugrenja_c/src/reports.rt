@@ -7,7 +7,8 @@ ghost use Rattle.zugrenja_c.specs.Runs.{ids_matched};
 ghost use Rattle.zugrenja_c.specs.Sessions.{IfMatching, IsUnbuilt};
 
 use crate::handle::Handle;
-use crate::status::NO_MATCHER;
+use crate::session::Session;
+use crate::status::{GOOD, NO_MATCHER, NOT_BUILT};
 use std::alloc::Global;
 
 /// The ids that the last start tag was reported under, ascending, as far as there is room, and how many there are.
@@ -27,11 +28,16 @@ pub extern "C" fn zugrenja_ids(
     ensures same { handle.new.slot.value ≡ handle.old.slot.value }
 {
     *matched = 0;
-    if !handle.is_live() {
+    let Some(session) = handle.take(alloc) else {
         return NO_MATCHER;
-    }
-    let session = handle.take(alloc);
-    let status = session.ids(ids, matched);
+    };
+    let status = match &*session {
+        Session::Adding(_) => NOT_BUILT,
+        Session::Matching(running) => {
+            *matched = running.write_ids(ids);
+            GOOD
+        }
+    };
     handle.put(session);
     status
 }
@@ -48,11 +54,16 @@ pub extern "C" fn zugrenja_has_opened(alloc: Global, handle: &mut Handle, opened
     ensures same { handle.new.slot.value ≡ handle.old.slot.value }
 {
     *opened = 0;
-    if !handle.is_live() {
+    let Some(session) = handle.take(alloc) else {
         return NO_MATCHER;
-    }
-    let session = handle.take(alloc);
-    let status = session.has_opened(opened);
+    };
+    let status = match &*session {
+        Session::Adding(_) => NOT_BUILT,
+        Session::Matching(running) => {
+            *opened = running.matcher.has_opened() as u32;
+            GOOD
+        }
+    };
     handle.put(session);
     status
 }
@@ -75,11 +86,18 @@ pub extern "C" fn zugrenja_tries(
 {
     *names = 0;
     *attributes = 0;
-    if !handle.is_live() {
+    let Some(session) = handle.take(alloc) else {
         return NO_MATCHER;
-    }
-    let session = handle.take(alloc);
-    let status = session.tries(names, attributes);
+    };
+    let status = match &*session {
+        Session::Adding(_) => NOT_BUILT,
+        Session::Matching(running) => {
+            let tries = running.matcher.machine().tries();
+            *names = tries.names();
+            *attributes = tries.attributes();
+            GOOD
+        }
+    };
     handle.put(session);
     status
 }

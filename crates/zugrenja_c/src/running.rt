@@ -9,6 +9,7 @@ ghost use Rattle.zugrenja_c.specs.Runs.{IsExplained, ids_by_texts, texts_of};
 ghost use Rattle.zugrenja_c.specs.Tags.{HasClosed, closed_elements};
 
 use crate::attribute_places::{AttributePlace, outlines_of};
+use crate::buffers::overwrite;
 use crate::closing::Closing;
 use crate::status::{
     GOOD, NEEDS_ATTRIBUTES, NO_NAMESPACE, NOT_OPENED, OUT_OF_MEMORY, namespace_of, number_of,
@@ -23,7 +24,7 @@ use std::marker::Model;
 /// A matcher and, if it explains, what explains its reports.
 #[derive(Drop)]
 pub struct Running {
-    matcher: Matcher<u64>,
+    pub(crate) matcher: Matcher<u64>,
     explained: Option<Explained>,
 }
 
@@ -55,7 +56,7 @@ impl Running {
     ghost use Rattle.std.specs.Prelude.{◌≡◌, ◌≢◌, ◌↔◌, ◌∷◌, [], None, Some, false, Ok, IfOk, IfSome, IfErr, OnErr, length, map};
     ghost use Rattle.lol_instructions.specs.Tries.{names_counted, attributes_counted};
     ghost use Rattle.lol_instructions.specs.declared.tries.Tries.{Tries};
-    ghost use Rattle.lol_matcher.specs.Building.{Building, started_with};
+    ghost use Rattle.lol_matcher.specs.Building.{started_with};
     ghost use Rattle.lol_reasons.specs.Explanations.{added_by};
     ghost use Rattle.lol_reasons.specs.Numbered.{HoldsItems, reason_shown, texts_in};
     ghost use Rattle.zugrenja_c.specs.Numbers.{IsOneOf, numbered_namespace, overwritten};
@@ -82,7 +83,8 @@ impl Running {
     ) -> Result<Self, NumberingError>
         requires holds { HoldsItems (added_by (texts_in texts))
             (record { ast = matcher.told.ast; explainer = explainer }) }
-        requires started { (b : Building) × (tries : Tries) × (matcher ≡ started_with b tries) }
+        requires started { matcher ≡ started_with matcher.told.ast
+            matcher.max_memory matcher.element_bytes matcher.told.esi matcher.tries }
         ensures made { IfOk result (λ made. made ≡ record { matcher = matcher; texts = Some texts }) }
         ensures memory { IfErr result (λ error. error ≡ NumberingError.Memory) }
     {
@@ -112,10 +114,10 @@ impl Running {
             return NO_NAMESPACE;
         };
         let started = self.matcher.start(name, ns);
-        list_ids(&self.matcher, &mut self.explained);
+        let listed = list_ids(&self.matcher, &mut self.explained);
         match started {
             Ok(Started::Reported) => {
-                *matched = count_ids(&self.matcher, &self.explained);
+                *matched = listed;
                 GOOD
             }
             Ok(Started::NeedsAttributes) => NEEDS_ATTRIBUTES,
@@ -147,10 +149,10 @@ impl Running {
             self_closing,
         };
         let finished = self.matcher.finish(aux_info);
-        list_ids(&self.matcher, &mut self.explained);
+        let listed = list_ids(&self.matcher, &mut self.explained);
         match finished {
             Ok(()) => {
-                *matched = count_ids(&self.matcher, &self.explained);
+                *matched = listed;
                 GOOD
             }
             Err(error) => number_of(error),
@@ -176,8 +178,8 @@ impl Running {
         };
         close(&mut self.matcher, name, &mut closing);
         list_ids(&self.matcher, &mut self.explained);
-        closing.write(values);
-        *closed = closing.closed();
+        overwrite(&closing.values, values);
+        *closed = closing.closed;
         GOOD
     }
 
@@ -202,27 +204,9 @@ impl Running {
         ensures counted { result ≡ length (ids_matched self.now) }
     {
         match &self.explained {
-            Some(explained) => {
-                let fitting = explained.ids.len().min(ids.len());
-                ids[..fitting].copy_from_slice(&explained.ids[..fitting]);
-            }
+            Some(explained) => overwrite(&explained.ids, ids),
             None => write_ids(self.matcher.matches(), ids),
         }
-        count_ids(&self.matcher, &self.explained)
-    }
-
-    /// Whether the last tag has opened an element.
-    pub(crate) fn has_opened(&self) -> bool
-        ensures { result ≡ self.now.matcher.opened }
-    {
-        self.matcher.has_opened()
-    }
-
-    /// How many nodes were tried for the last start tag.
-    pub(crate) fn tries(&self) -> Tries
-        ensures { result ≡ self.now.matcher.tries }
-    {
-        self.matcher.tries()
     }
 
     /// Why the last tag was reported, if the matcher explains.
@@ -239,36 +223,33 @@ impl Running {
     }
 }
 
-/// Lists what the last tag was reported under by the ids of the texts, if the matcher explains.
-fn list_ids(matcher: &Matcher<u64>, explained: &mut Option<Explained>)
+/// Lists what the last tag was reported under by the ids of the texts, if the matcher explains, and answers how many ids there are.
+fn list_ids(matcher: &Matcher<u64>, explained: &mut Option<Explained>) -> usize
     ensures lists { (before : Matching ℕ) → before.told.ast ≡ matcher.now.told.ast
         → IsExplained before explained.old → IsExplained matcher.now explained.new }
+    ensures counts { IsExplained matcher.now explained.new
+        → result ≡ length (ids_by_texts (texts_of explained.new) matcher.now) }
     ensures texts { texts_of explained.new ≡ texts_of explained.old }
 {
-    if let Some(explained) = explained {
-        matcher.report(&explained.explainer, &mut explained.ids);
-    }
-}
-
-/// How many ids the last tag was reported under.
-fn count_ids(matcher: &Matcher<u64>, explained: &Option<Explained>) -> usize
-    ensures { IsExplained matcher.now explained.now
-        → result ≡ length (ids_by_texts (texts_of explained.now) matcher.now) }
-{
     match explained {
-        Some(explained) => explained.ids.len(),
+        Some(explained) => {
+            matcher.report(&explained.explainer, &mut explained.ids);
+            explained.ids.len()
+        }
         None => matcher.matches().len(),
     }
 }
 
-/// Writes the ids of matches, as far as there is room.
-fn write_ids(matches: &[MatchInfo], ids: &mut [u32])
-    ensures { ids.new ≡ overwritten (map (λ info. info.match_id) matches.now) ids.old }
+/// Writes the ids of matches, as far as there is room, and answers how many there are.
+fn write_ids(matches: &[MatchInfo], ids: &mut [u32]) -> usize
+    ensures written { ids.new ≡ overwritten (map (λ info. info.match_id) matches.now) ids.old }
+    ensures length { result ≡ length matches.now }
 {
     let fitting = matches.len().min(ids.len());
     for index in 0..fitting {
         ids[index] = matches[index].match_id;
     }
+    matches.len()
 }
 
 /// Tells a matcher of an end tag, and keeps the values of the elements that it closes.

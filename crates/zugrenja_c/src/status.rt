@@ -125,16 +125,6 @@ impl Refusal {
             _ => return None,
         })
     }
-
-    /// The place.
-    pub(crate) fn location(&self) -> ErrorLocation
-        ensures { result ≡ record { item = self.now.item; offset = self.now.offset } }
-    {
-        ErrorLocation {
-            item: self.item,
-            offset: self.offset,
-        }
-    }
 }
 
 /// The number of a cause: its place among lol_html's.

@@ -7,7 +7,8 @@ ghost use Rattle.zugrenja_c.specs.Tags.{Ends, Finishes, GivesValue, Starts};
 
 use crate::attribute_places::AttributePlace;
 use crate::handle::Handle;
-use crate::status::NO_MATCHER;
+use crate::session::Session;
+use crate::status::{NO_MATCHER, NOT_BUILT};
 use std::alloc::Global;
 
 /// A start tag: it is reported, under as many ids as `matched` says, or its attributes are asked for. A start tag that waits for its
@@ -32,11 +33,13 @@ pub extern "C" fn zugrenja_start(
     ensures none { result ≢ 0 → matched.new ≡ 0 }
 {
     *matched = 0;
-    if !handle.is_live() {
+    let Some(mut session) = handle.take(alloc) else {
         return NO_MATCHER;
-    }
-    let mut session = handle.take(alloc);
-    let status = session.start(name, namespace, matched);
+    };
+    let status = match &mut *session {
+        Session::Adding(_) => NOT_BUILT,
+        Session::Matching(running) => running.start(name, namespace, matched),
+    };
     handle.put(session);
     status
 }
@@ -63,11 +66,19 @@ pub extern "C" fn zugrenja_finish(
     ensures none { result ≢ 0 → matched.new ≡ 0 }
 {
     *matched = 0;
-    if !handle.is_live() {
+    let Some(mut session) = handle.take(alloc) else {
         return NO_MATCHER;
-    }
-    let mut session = handle.take(alloc);
-    let status = session.finish(alloc, text, attributes, self_closing != 0, matched);
+    };
+    let status = match &mut *session {
+        Session::Adding(_) => NOT_BUILT,
+        Session::Matching(running) => running.finish(
+            alloc,
+            text,
+            attributes,
+            self_closing != 0,
+            matched,
+        ),
+    };
     handle.put(session);
     status
 }
@@ -91,11 +102,13 @@ pub extern "C" fn zugrenja_end(
     ensures unchanged { result ≢ 0 → handle.new.slot.value ≡ handle.old.slot.value }
 {
     *closed = 0;
-    if !handle.is_live() {
+    let Some(mut session) = handle.take(alloc) else {
         return NO_MATCHER;
-    }
-    let mut session = handle.take(alloc);
-    let status = session.end(alloc, name, values, closed);
+    };
+    let status = match &mut *session {
+        Session::Adding(_) => NOT_BUILT,
+        Session::Matching(running) => running.end(alloc, name, values, closed),
+    };
     handle.put(session);
     status
 }
@@ -111,11 +124,13 @@ pub extern "C" fn zugrenja_set_value(alloc: Global, handle: &mut Handle, value: 
     ensures statuses { IsOneOf (0 ∷ 5 ∷ 7 ∷ 18 ∷ []) result }
     ensures unchanged { result ≢ 0 → handle.new.slot.value ≡ handle.old.slot.value }
 {
-    if !handle.is_live() {
+    let Some(mut session) = handle.take(alloc) else {
         return NO_MATCHER;
-    }
-    let mut session = handle.take(alloc);
-    let status = session.set_value(value);
+    };
+    let status = match &mut *session {
+        Session::Adding(_) => NOT_BUILT,
+        Session::Matching(running) => running.set_value(value),
+    };
     handle.put(session);
     status
 }

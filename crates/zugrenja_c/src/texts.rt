@@ -4,8 +4,9 @@ ghost use Rattle.std.specs.Prelude.{◌≡◌, ◌≤◌, length};
 ghost use Rattle.zugrenja_c.specs.Numbers.{overwritten};
 ghost use Rattle.zugrenja_c.specs.Texts.{cause_text, text_for};
 
+use crate::buffers::overwrite;
 use crate::status::Refusal;
-use lol_matcher::ErrorMessage;
+use lol_matcher::{ErrorLocation, ErrorMessage};
 use std::fmt::{self, Write};
 
 /// Why a text isn't accepted: for `+` and `~`, the only combinators that are refused, with the sign.
@@ -74,10 +75,7 @@ pub extern "C" fn zugrenja_text(status: u32, cause: u32, combinator: u32, out: &
     ensures length { result ≡ length (text_for status cause combinator) }
     ensures bound { result ≤ 96 }
 {
-    let text = text_of(status, cause, combinator).as_bytes();
-    let fitting = text.len().min(out.len());
-    out[..fitting].copy_from_slice(&text[..fitting]);
-    text.len()
+    overwrite(text_of(status, cause, combinator).as_bytes(), out)
 }
 
 /// Writes the beginning that fits of what people are told of a text that isn't accepted: why, and under the text's line a caret at the place.
@@ -89,7 +87,11 @@ pub extern "C" fn zugrenja_message(text: &[u8], refusal: &Refusal, out: &mut [u8
     let (Ok(text), Some(cause)) = (str::from_utf8(text), refusal.cause()) else {
         return 0;
     };
-    let message = ErrorMessage::new(text, cause, refusal.location());
+    let location = ErrorLocation {
+        item: refusal.item,
+        offset: refusal.offset,
+    };
+    let message = ErrorMessage::new(text, cause, location);
     let mut fitting = Fitting { out, len: 0 };
     let _ = write!(fitting, "{message}");
     fitting.len
@@ -108,9 +110,7 @@ impl fmt::Write for Fitting<'_> {
             return Err(fmt::Error);
         };
         if let Some(room) = self.out.get_mut(self.len..) {
-            for (to, from) in room.iter_mut().zip(text.bytes()) {
-                *to = from;
-            }
+            overwrite(text.as_bytes(), room);
         }
         self.len = len;
         Ok(())

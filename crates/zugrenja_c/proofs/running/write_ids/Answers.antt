@@ -1,14 +1,12 @@
--- each turn writes the next id, and after the last there is no other or no room
-use Rattle.std.proofs.Common.{◌<◌, ◌≤◌, false, subst}
-use Rattle.zugrenja_c.proofs.Buffers.{writes_next, wrote_all}
+-- after the last turn there is no other id, or no room
+use Rattle.std.proofs.Common.{arith, length, map}
+use Rattle.std.proofs.lemmas.Grind.{common_steps}
+use Rattle.std.proofs.lemmas.List.{drop_min, take-append-drop, take-map, take_min}
 use Rattle.zugrenja_c.proofs.running.write_ids.Goals as goal
 
-pub loop-index-preserved : goal.loop-index-preserved
-loop-index-preserved c =
-    writes_next (λ info. info.match_id) (record { match_id = 0; with_content = false }) c.loop-index.index c.args.matches.now c.loop-index.ids c.args.ids.now c.loop-index.invariant
-    (subst (λ n. c.loop-index.index < n) c.min-fitting.ensures c.loop-index-test.true)
-
-pub returns : goal.returns
-returns c =
-    wrote_all (λ info. info.match_id) (record { match_id = 0; with_content = false }) c.loop-index.index c.args.matches.now c.loop-index.ids c.args.ids.now c.loop-index.invariant
-    (subst (λ n. n ≤ c.loop-index.index) c.min-fitting.ensures c.loop-index-test.false)
+pub returns-clause-written : goal.returns-clause-written
+returns-clause-written c =
+    let ids = map (λ info. info.match_id) c.args.matches.now in
+    let old = c.args.ids.now in
+    let i = c.loop-index.index in
+    grind (arith, common_steps, take-append-drop i c.loop-index.ids, take-map (λ info. info.match_id) i c.args.matches.now, take_min (length old) ids, drop_min (length c.args.matches.now) old)

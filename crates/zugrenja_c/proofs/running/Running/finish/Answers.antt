@@ -12,12 +12,12 @@ use Rattle.zugrenja_c.proofs.running.Running.finish.Goals as goal
 pub invariant_of-self : goal.invariant_of-self
 invariant_of-self c =
     let old = c.self.inside.matcher in
-    c.list_ids.ensures.lists old (keeps old c.finish-finished.new.self (with_told (finished_told old.told _) old c.finish-finished.new.self) c.in-Ok-finished.ensures.ok refl) c.self.invariant
+    c.list_ids-listed.ensures.lists old (keeps old c.finish-finished.new.self (with_told (finished_told old.told _) old c.finish-finished.new.self) c.in-Ok-finished.ensures.ok refl) c.self.invariant
 
 pub invariant_of-self-2 : goal.invariant_of-self-2
 invariant_of-self-2 c =
     let old = c.self.inside.matcher in
-    c.list_ids.ensures.lists old (refused_keeps old c.finish-finished.new.self c.in-Err.error c.in-Err.ensures.after c.in-Err.ensures.unchanged) c.self.invariant
+    c.list_ids-listed.ensures.lists old (refused_keeps old c.finish-finished.new.self c.in-Err.error c.in-Err.ensures.after c.in-Err.ensures.unchanged) c.self.invariant
 
 pub returns-in-Ok-finished-clause-told : goal.returns-in-Ok-finished-clause-told
 returns-in-Ok-finished-clause-told c = rw (← c.self.view_is) (
@@ -33,7 +33,7 @@ returns-in-Ok-finished-clause-told c = rw (← c.self.view_is) (
     (finished_by old c.finish-finished.new.self _ c.args.text.now c.args.places.now c.args.self_closing c.new.ensures c.in-Ok.ensures refl told.reported told.opens told.ok told.fits
     (λ none. grind (arith, common_steps, is, not_asked, well, outside, none))) in
     record {
-      reported = λ i. (finished, inside, c.count_ids.ensures (invariant_of-self c));
+      reported = λ i. (finished, inside, c.list_ids-listed.ensures.counts (invariant_of-self c));
       limit = grind (arith);
       counter = grind (arith);
       memory = grind (arith);

@@ -15,7 +15,7 @@ pub invariant_of-self : goal.invariant_of-self
 invariant_of-self c =
     let old = c.self.inside.matcher in
     let start = c.start-started in
-    c.list_ids.ensures.lists old (started_keeps old start.new.self c.args.name.now c.in-Some.ns start.result start.ensures.ok start.ensures.stuck start.ensures.after) c.self.invariant
+    c.list_ids-listed.ensures.lists old (started_keeps old start.new.self c.args.name.now c.in-Some.ns start.result start.ensures.ok start.ensures.stuck start.ensures.after) c.self.invariant
 
 pub returns-clause-statuses : goal.returns-clause-statuses
 returns-clause-statuses c = elim c.match-started.branch [
@@ -42,7 +42,7 @@ returns-clause-told c = rw (← c.self.view_is) (
           record {
             reported = λ i. (
               subst (λ o. IsSomeAnd o (λ ns. StartIsAnswered answers.Reported old c.args.name.now ns new)) some (answer answers.Reported ok),
-              w.matched-is ∙ w.count_ids.ensures (invariant_of-self c),
+              w.matched-is ∙ c.list_ids-listed.ensures.counts (invariant_of-self c),
             );
             asks = grind (arith, is);
             limit = grind (arith, is);
