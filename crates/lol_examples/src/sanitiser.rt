@@ -3,8 +3,7 @@
 ghost use Rattle.std.specs.Prelude.{◌≡◌, ◌≤◌, length, IfOk, IsTrue, None};
 
 use lol_matcher::{MatcherBuilder, OpenElement};
-use lol_page::PageSettings;
-use lol_page_matcher::{Page, PageError};
+use lol_page::{Page, PageError, PageSettings};
 use std::alloc::{AllocError, Global};
 
 /// What stays of a page, as far as it was read.
@@ -21,8 +20,8 @@ struct Sanitiser {
 }
 
 /// What stays of a page that comes in chunks: all but the elements that are reported, with what is inside of them, end tags that close nothing,
-/// and what stands after the last tag from a `<` on, which may be a tag that isn't whole. What a browser reads otherwise is in docs/PAGES.md.
-/// That it ends, and panics on no page, is proved; which bytes stay is tested alone (test_machine).
+/// and what stands after the last tag from a `<` on, which may be a tag that isn't whole. An ambiguous page is refused. What a browser reads
+/// otherwise is in docs/PAGES.md. That it ends, and panics on no page, is proved; which bytes stay is tested alone (test_machine).
 ///
 /// # Errors
 /// Those of `Page::next_tag`.
@@ -34,8 +33,12 @@ pub fn sanitised(
     let Ok(matcher) = builder.build() else {
         return Err(PageError::Memory);
     };
+    let settings = PageSettings {
+        strict: true,
+        ..PageSettings::default()
+    };
     let mut sanitiser = Sanitiser {
-        page: Page::new(alloc, matcher, PageSettings::default()),
+        page: Page::new(alloc, matcher, settings),
         open: 0,
         around: None,
         text: Vec::new(alloc),

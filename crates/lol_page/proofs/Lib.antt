@@ -4,3 +4,5 @@ pub mod Opening
 pub mod Tape
 pub mod ReadOn
 pub mod InPage
+pub mod More
+pub mod Telling

@@ -1,13 +1,28 @@
--- Bytes that end no line move the column alone.
-use Rattle.std.proofs.Common.{◌≡◌, ◌<◌, ℕ, ◌+◌, ◌-◌, drop, List, [], ◌∷◌, ◌++◌, zero, suc, length, length-drop, ◌≤◌, get_or, take, refl, sym, ◌∙◌, ap, arith, add-one}
+-- Plain bytes: those that end no line move the column alone, and values without an ampersand stand for themselves.
+use Rattle.std.proofs.Common.{◌≡◌, ◌<◌, ℕ, ◌+◌, ◌-◌, ◌==◌, ◌||◌, Bool, true, false, drop, List, [], ◌∷◌, ◌++◌, map, Option, Some, None, zero, suc, length, length-drop, ◌≤◌, get_or, take, refl, sym, ◌∙◌, ap, arith, add-one}
 use Rattle.std.proofs.Math.Seq.{take-suc, take-add}
 use Rattle.std.proofs.lemmas.List.{take_rest}
 use Rattle.std.proofs.lemmas.List.Sums.{fold-append}
 use Rattle.std.proofs.lemmas.Bool.Decides.{nat_tests}
-use Rattle.std.specs.Prelude.{Bool, true, false, ◌==◌, ◌||◌}
+use Rattle.std.specs.List.{list_any}
+use Rattle.std.specs.Option.{option_map}
 use Rattle.memchr.specs.Find.{Nowhere, Passes, is_byte2}
+use Rattle.lol_base.specs.BoolLaws.{not_true}
+use Rattle.lol_base.specs.StartTags.{attribute_of, bytes_at}
+use Rattle.lol_base.specs.declared.bytes.Range.{Range}
+use Rattle.lol_base.specs.declared.start_tag.AttributeOutline.{AttributeOutline}
+use Rattle.lol_references.specs.Attributes.{decoded_attribute}
+use Rattle.lol_references.specs.Decoding.{decoded, piece}
+use Rattle.lol_tags.specs.Attributes.{attributes_of, outlines_of}
+use Rattle.lol_page.specs.Pages.{attributes_read}
 use Rattle.lol_page.specs.Positions.{ArePlain, moved_by, moved_over}
 use Rattle.lol_page.specs.declared.position.Position.{Position}
+
+neither : (x y : Bool) → (x || y) ≡ false → (x ≡ false) × (y ≡ false)
+neither true y h = absurd (cc)
+neither false y h = (refl, h)
+
+-- 1. Lines
 
 plain-step : (p : Position) (b : ℕ) → (b == 13) ≡ false → (b == 10) ≡ false → moved_by p b ≡ record { line_ends = p.line_ends; column = p.column + 1; after_return = false }
 unfolding moved_by
@@ -33,17 +48,12 @@ plain-more s i h before high =
     let no_feed : (b == 10) ≡ false = grind (arith, nat_tests) in
     rw (add-one i, take-suc s i 0 h) (plain-append (take i s) (b ∷ []) before (no_return, no_feed, tt))
 
-neither : (x y : Bool) → ¬ ((x || y) ≡ true) → (x ≡ false) × (y ≡ false)
-neither true y h = absurd (h refl)
-neither false true h = absurd (h refl)
-neither false false h = (refl, refl)
-
 pub plain-take : (bytes : List ℕ) (n : ℕ) → Nowhere (Passes (is_byte2 10 13) bytes) 0 n → ArePlain (take n bytes)
 plain-take [] zero h = tt
 plain-take [] (suc n) h = tt
 plain-take (b ∷ bytes) zero h = tt
 plain-take (b ∷ bytes) (suc n) h =
-    let first = neither (b == 10) (b == 13) (h 0 (omega arith) (omega arith)) in
+    let first = neither (b == 10) (b == 13) (not_true (b == 10 || b == 13) (h 0 (omega arith) (omega arith))) in
     (first.1, first.0, plain-take bytes n (λ k low high. h (suc k) (omega arith) (omega arith)))
 
 -- The bytes from a place on, as the code has them, come behind those before it.
@@ -64,3 +74,47 @@ over-more p q s i h e =
 pub part-within : (s : List ℕ) (i n : ℕ) → i ≤ length s → n ≤ length (take (length s - i) (drop i s)) → i + n ≤ length s
 part-within s i n h k =
     let len : length (take (length s - i) (drop i s)) ≡ length s - i = ap length (take_rest s i) ∙ length-drop i s in omega arith
+
+-- 2. Values
+
+abbrev has_ampersand : List ℕ → Bool
+has_ampersand bytes = list_any (λ b. b == 38) bytes
+
+first_stays : (b : ℕ) (bytes : List ℕ) → (b == 38) ≡ false → decoded (b ∷ bytes) ≡ b ∷ decoded bytes
+unfolding piece
+first_stays b bytes h = rw h refl
+
+stays : (bytes : List ℕ) → has_ampersand bytes ≡ false → decoded bytes ≡ bytes
+stays [] none = refl
+stays (b ∷ bytes) none =
+    let h = neither (b == 38) (has_ampersand bytes) none in
+    first_stays b bytes h.0 ∙ ap (λ (l : List ℕ). b ∷ l) (stays bytes h.1)
+
+none_behind : (n : ℕ) (bytes : List ℕ) → has_ampersand bytes ≡ false → has_ampersand (drop n bytes) ≡ false
+none_behind zero bytes none = none
+none_behind (suc n) [] none = refl
+none_behind (suc n) (b ∷ bytes) none = none_behind n bytes (neither (b == 38) (has_ampersand bytes) none).1
+
+none_before : (n : ℕ) (bytes : List ℕ) → has_ampersand bytes ≡ false → has_ampersand (take n bytes) ≡ false
+none_before zero bytes none = refl
+none_before (suc n) [] none = refl
+none_before (suc n) (b ∷ bytes) none =
+    let h = neither (b == 38) (has_ampersand bytes) none in
+    ap (λ x. x || has_ampersand (take n bytes)) h.0 ∙ none_before n bytes h.1
+
+value_stays : (text : List ℕ) (value : Option Range) → has_ampersand text ≡ false
+    → option_map (λ range. decoded (bytes_at text range)) value ≡ option_map (bytes_at text) value
+value_stays text None none = refl
+value_stays text (Some range) none =
+    ap Some (stays (bytes_at text range) (none_before (range.end - range.start) (drop range.start text) (none_behind range.start text none)))
+
+attributes_stay : (text : List ℕ) (outlines : List AttributeOutline) → has_ampersand text ≡ false
+    → map (decoded_attribute text) outlines ≡ map (attribute_of text) outlines
+attributes_stay text [] none = refl
+attributes_stay text (o ∷ outlines) none =
+    λ i. record { name = bytes_at text o.name; value = value_stays text o.value none i } ∷ attributes_stay text outlines none i
+
+pub plain_read : (is_set : Bool) (text : List ℕ) (name_end : ℕ) → has_ampersand text ≡ false
+    → attributes_of text name_end ≡ attributes_read is_set text name_end
+plain_read true text name_end none = sym (attributes_stay text (outlines_of text name_end) none)
+plain_read false text name_end none = refl

@@ -1,5 +1,5 @@
 -- What a part more adds to a page.
-use Rattle.std.proofs.Common.{◌≡◌, ℕ, ◌+◌, ◌-◌, List, [], ◌∷◌, ◌++◌, Option, Some, None, length, refl, sym, ◌∙◌, ap, subst, arith, append_assoc, length-append, length-drop}
+use Rattle.std.proofs.Common.{◌≡◌, ℕ, ◌+◌, ◌-◌, List, [], ◌∷◌, ◌++◌, Option, Some, None, length, take, drop, refl, sym, ◌∙◌, ap, subst, arith, append_assoc, length-append, length-drop, take-append-drop, take_all}
 use Rattle.std.specs.Option.{option_map}
 use Rattle.std.proofs.lemmas.List.{append-nil}
 use Rattle.lol_tags.specs.Reading.{step, ended, after, tags_from}
@@ -11,7 +11,7 @@ use Rattle.lol_page.specs.PageTags.{PageTag}
 use Rattle.lol_page.specs.Pages.{Page, read_on, moved, behind, behind_tag, page_tag, page_step, page_ended, page_after, page_tags_from}
 use Rattle.lol_page.specs.Readings.{FirstIsLonger}
 use Rattle.lol_page.specs.declared.error.PageReadError.{PageReadError}
-use Rattle.lol_page.specs.declared.error.PageReadError.TheVariants.{PageTooLong, TagTooLong, Memory, Failed}
+use Rattle.lol_page.specs.declared.error.PageReadError.TheVariants.{PageTooLong, TagTooLong, Ambiguous, Memory, Failed}
 use Rattle.lol_page.proofs.Tape.{last-tag, none-first, at-step, ended-tag}
 
 -- 1. One byte
@@ -152,9 +152,30 @@ read-page p r read part e f =
     ap (λ (x : TagReader). record { reader = x; read = read; elements = p.elements; decoded = p.decoded }) e
     ∙ ap (λ (l : List ℕ). record { reader = after p.reader part; read = l; elements = p.elements; decoded = p.decoded }) f
 
--- why a chunk is refused
-pub only-long : (e : PageReadError) (room long : Type 0) → (e ≡ PageTooLong → room → ⊥) → (e ≡ Memory → long → ⊥) → (e ≡ Failed → ⊥) → room → long → e ≡ TagTooLong
-only-long PageTooLong room long a b d r l = absurd (a refl r)
-only-long TagTooLong room long a b d r l = refl
-only-long Memory room long a b d r l = absurd (b refl l)
-only-long Failed room long a b d r l = absurd (d refl)
+-- 6. The tags of a whole chunk, by those of its first bytes
+
+pub first_of_part : (p : Page) (bytes : List ℕ) (n : ℕ) (t : PageTag) → t ∷ [] ≡ page_tags_from p (take n bytes)
+    → page_tags_from p bytes ≡ t ∷ page_tags_from (page_after p (take n bytes)) (drop n bytes)
+first_of_part p bytes n t first =
+    let more = page_tags_from (page_after p (take n bytes)) (drop n bytes) in
+    ap (page_tags_from p) (sym (take-append-drop n bytes)) ∙ given-append page_step page_ended p (take n bytes) (drop n bytes)
+    ∙ ap (λ (l : List PageTag). l ++ more) (sym first)
+
+pub none_in_whole : (p : Page) (bytes : List ℕ) (n : ℕ) → [] ≡ page_tags_from p (take n bytes) → n ≡ length bytes → [] ≡ page_tags_from p bytes
+none_in_whole p bytes n none whole = none ∙ ap (page_tags_from p) (ap (λ (k : ℕ). take k bytes) whole ∙ take_all (length bytes) bytes (omega arith))
+
+-- 7. Why a chunk is refused
+
+-- what is known of the tags, as the reader's value has it
+pub not_longer : (n limit : ℕ) (p q : Page) (bytes : List ℕ) → p.reader.at ≡ length p.read → n ≡ limit → p ≡ q → (IsLong n (tags_from p.reader bytes) → ⊥)
+    → FirstIsLonger limit (page_tags_from q bytes) → ⊥
+not_longer n limit p q bytes here same is short l =
+    short (short-page n p bytes here (subst (λ (m : ℕ). FirstIsLonger m (page_tags_from p bytes)) (sym same)
+    (subst (λ (x : Page). FirstIsLonger limit (page_tags_from x bytes)) (sym is) l)))
+
+pub only-long : (e : PageReadError) (room long : Type 0) → (e ≡ PageTooLong → room → ⊥) → (e ≡ Memory → long → ⊥) → (e ≡ Ambiguous → ⊥) → (e ≡ Failed → ⊥) → room → long → e ≡ TagTooLong
+only-long PageTooLong room long a b c d r l = absurd (a refl r)
+only-long TagTooLong room long a b c d r l = refl
+only-long Ambiguous room long a b c d r l = absurd (c refl)
+only-long Memory room long a b c d r l = absurd (b refl l)
+only-long Failed room long a b c d r l = absurd (d refl)

@@ -10,3 +10,8 @@ pub mod PageCuts
 pub mod PageRows
 pub mod PagePlaces
 pub mod ValueLaws
+pub mod PageMatches
+pub mod PageRefusals
+pub mod MatchLaws
+pub mod HeldAttributes
+pub mod Ambiguity

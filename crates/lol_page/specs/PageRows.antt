@@ -1,11 +1,14 @@
 -- Pages and their tags, worked by hand from the HTML Standard.
-use Rattle.std.specs.Prelude.{ℕ, Bool, true, false, List, [], ◌∷◌, ◌++◌, Option, Some, None, map, codes}
+use Rattle.std.specs.Prelude.{ℕ, Bool, true, false, if◌then◌else◌, List, [], ◌∷◌, ◌++◌, Option, Some, None, map, codes}
 use Rattle.lol_base.specs.StartTags.{Attribute}
 use Rattle.lol_base.specs.declared.namespace.Namespace.{Namespace}
 use Rattle.lol_base.specs.declared.namespace.Namespace.TheVariants.{Html, Svg, MathML}
 use Rattle.lol_machine.specs.Events.{Event, Start}
+use Rattle.lol_page.specs.Ambiguity.{first_doubts}
 use Rattle.lol_page.specs.PageTags.{PageTag}
 use Rattle.lol_page.specs.Pages.{page_tags}
+use Rattle.lol_page.specs.Readings.{doubts_more, is_ambiguous_tag}
+use Rattle.lol_page.specs.declared.tree_doubts.TreeDoubts.{TreeDoubts}
 
 -- the bytes of a tag, and its namespace, if it is a start tag
 pub record BriefTag : Type 0 where
@@ -133,3 +136,59 @@ attribute name value = record { name = name; value = Some value }
 abbrev pub start : List ℕ → Namespace → List Attribute → Bool → Event
 start name ns attributes self_closing =
     Start (record { name = name; namespace = ns; attributes = attributes; self_closing = self_closing; finish = true })
+
+-- the first ambiguous one of some tags, if there is one
+abbrev pub first_ambiguous : Option TreeDoubts → List PageTag → List BriefTag
+first_ambiguous doubts [] = []
+first_ambiguous doubts (t ∷ tags) = if is_ambiguous_tag doubts t then brief t ∷ [] else first_ambiguous (doubts_more doubts t) tags
+
+-- the first ambiguous tags of pages, where scripts run or don't
+abbrev pub refusals_read : Bool → List PageRow → List (List BriefTag)
+refusals_read scripting rows = map (λ (row : PageRow). first_ambiguous (first_doubts true scripting) (page_tags scripting false row.page)) rows
+
+abbrev pub reads_on : List ℕ → PageRow
+reads_on page = reads page []
+
+-- in a `select`
+abbrev pub select_rows : List PageRow
+select_rows =
+    reads (codes "<select><option><title>") (html (codes "<title>") ∷ [])
+    ∷ reads (codes "<select><style>") (html (codes "<style>") ∷ [])
+    ∷ reads (codes "<SELECT><XMP>") (html (codes "<XMP>") ∷ [])
+    ∷ reads (codes "<select><iframe>") (html (codes "<iframe>") ∷ [])
+    ∷ reads (codes "<select><noembed>") (html (codes "<noembed>") ∷ [])
+    ∷ reads (codes "<select><noframes>") (html (codes "<noframes>") ∷ [])
+    ∷ reads (codes "<select><noscript>") (html (codes "<noscript>") ∷ [])
+    ∷ reads (codes "<select><plaintext>") (html (codes "<plaintext>") ∷ [])
+    ∷ reads (codes "<select><svg>") (svg (codes "<svg>") ∷ [])
+    ∷ reads (codes "<select><math>") (math (codes "<math>") ∷ [])
+    ∷ reads_on (codes "<select><script></script><b></select><xmp>")
+    ∷ reads_on (codes "<select><textarea></textarea><xmp>")
+    ∷ reads_on (codes "<select><input><keygen><xmp>")
+    ∷ reads (codes "<select><select><xmp>") (html (codes "<xmp>") ∷ [])
+    ∷ reads (codes "<p><select></p><xmp>") (html (codes "<xmp>") ∷ [])
+    ∷ reads_on (codes "<table><tr><xmp></xmp><svg></svg><select>")
+    ∷ []
+
+-- behind a `frameset`
+abbrev pub frameset_rows : List PageRow
+frameset_rows =
+    reads (codes "<frameset><script>") (html (codes "<script>") ∷ [])
+    ∷ reads (codes "<frameset></frameset><textarea>") (html (codes "<textarea>") ∷ [])
+    ∷ reads_on (codes "<frameset><frame><noframes></noframes>")
+    ∷ reads (codes "<frameset><select><noframes>") (html (codes "<noframes>") ∷ [])
+    ∷ reads_on (codes "<style></style><frameset>")
+    ∷ []
+
+-- in templates
+abbrev pub template_rows : List PageRow
+template_rows =
+    reads (codes "<template><col><script>") (html (codes "<script>") ∷ [])
+    ∷ reads (codes "<template><col><template></template><xmp>") (html (codes "<xmp>") ∷ [])
+    ∷ reads_on (codes "<template><col></template><script>")
+    ∷ reads_on (codes "<template><tr><script>")
+    ∷ reads_on (codes "<table><col><script>")
+    ∷ reads (codes "<select><template><script>") (html (codes "<script>") ∷ [])
+    ∷ reads (codes "<select><template></select></template><xmp>") (html (codes "<xmp>") ∷ [])
+    ∷ reads_on (codes "<select><template></template></select><xmp>")
+    ∷ []

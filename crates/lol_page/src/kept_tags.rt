@@ -64,6 +64,7 @@ impl KeptTags {
         ensures memory { (result ≡ Err PageReadError.Memory)
             → (self.old.reader.at + length chunk.now < 2 ^ 64)
             × (IsLong self.old.limit (tags_from self.old.reader chunk.now) → ⊥) }
+        ensures ambiguous { (result ≡ Err PageReadError.Ambiguous) → ⊥ }
         ensures failed { (result ≡ Err PageReadError.Failed) → ⊥ }
     {
         unfinished_tags_are_kept();

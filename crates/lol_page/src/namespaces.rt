@@ -81,12 +81,16 @@ fn is_among(name: &LocalName<'_>, others: &[&str]) -> bool
 }
 
 // The same of a name's bytes, which their number tells apart from most others.
-fn are_among(bytes: &[u8], others: &[&str]) -> bool
+pub(crate) fn are_among(bytes: &[u8], others: &[&str]) -> bool
     ensures { result ≡ list_any (λ other. same_local_name (local_name bytes.now) (local_name other.now)) others.now }
 {
-    others
-        .iter()
-        .any(|other| bytes.eq_ignore_ascii_case(other.as_bytes()))
+    others.iter().any(|other| is_named(bytes, other.as_bytes()))
+}
+
+pub(crate) fn is_named(bytes: &[u8], other: &[u8]) -> bool
+    ensures { result ≡ names.is_spelled (local_name bytes.now) other.now }
+{
+    bytes.eq_ignore_ascii_case(other)
 }
 
 fn is_spelled(name: &LocalName<'_>, other: &[u8]) -> bool

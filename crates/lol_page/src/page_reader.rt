@@ -4,17 +4,19 @@ ghost use Rattle.std.specs.Prelude.{◌≡◌, ◌↔◌, ◌+◌, ◌<◌, ◌�
 ghost use Rattle.lol_base.specs.LocalNames.{local_name};
 ghost use Rattle.lol_tags.specs.Attributes.{attributes_of};
 ghost use Rattle.lol_tags.specs.Runs.{with_some};
+ghost use Rattle.lol_page.specs.Ambiguity.{first_doubts};
 ghost use Rattle.lol_page.specs.Elements.{IsSound, elements_of};
 ghost use Rattle.lol_page.specs.Keeping.{IsKept, HoldsTag, page_of};
 ghost use Rattle.lol_page.specs.Namespaces.{left_by, left_open, opened_by, namespace_in};
 ghost use Rattle.lol_page.specs.Pages.{fresh_page, page_after, page_tags_from, page_tag, behind_tag};
-ghost use Rattle.lol_page.specs.Readings.{tag_read, with_text, start_of_name, FirstIsLonger};
+ghost use Rattle.lol_page.specs.Readings.{tag_read, with_text, start_of_name, doubts_after, FirstIsAmbiguous, FirstIsLonger};
 
 use crate::error::PageReadError;
 use crate::kept_tags::KeptTags;
 use crate::namespaces::{breaks_out, end_breaks_out, has_content, holds_html};
 use crate::open_elements::OpenElements;
 use crate::settings::PageSettings;
+use crate::tree_doubts::{TreeDoubts, note_tag};
 use lol_base::{AttributeBuffer, LocalName, Namespace};
 use lol_tags::Tag;
 use lol_tags::laws::unfinished_tags_are_kept;
@@ -102,6 +104,7 @@ pub struct PageReader {
     elements: OpenElements,
     outlines: AttributeBuffer,
     decoded: bool,
+    doubts: Option<TreeDoubts>,
     failed: bool,
 }
 
@@ -118,6 +121,7 @@ impl Model for PageReader {
       page = page_of r.decoded r.tags r.elements;
       text = r.tags.bytes.items;
       limit = r.tags.limit;
+      doubts = r.doubts;
       failed = r.failed;
     } };
 
@@ -130,6 +134,7 @@ impl PageReader {
     pub fn new(alloc: Global, settings: PageSettings) -> Self
         ensures page { result.page ≡ fresh_page settings.scripting settings.decoded }
         ensures limit { result.limit ≡ settings.max_tag_bytes }
+        ensures doubts { result.doubts ≡ first_doubts settings.strict settings.scripting }
         ensures fresh { result.failed ≡ false }
     {
         PageReader {
@@ -137,6 +142,7 @@ impl PageReader {
             elements: OpenElements::new(alloc),
             outlines: Vec::new(alloc),
             decoded: settings.decoded,
+            doubts: TreeDoubts::first(settings.strict, settings.scripting),
             failed: false,
         }
     }
@@ -159,7 +165,8 @@ impl PageReader {
     ///
     /// # Errors
     /// `TagTooLong`: the next tag that ends in this chunk is longer than the limit. `PageTooLong`: the page would be longer than `u64::MAX` bytes
-    /// with this chunk. `Memory`: an allocation failed. After each of them nothing more is read: every later call answers `Failed`.
+    /// with this chunk. `Ambiguous`: the next tag is ambiguous, and `strict` is set; where memory is refused for that tag too, `Memory` comes in
+    /// its place. `Memory`: an allocation failed. After each of them nothing more is read: every later call answers `Failed`.
     #[inline(always)]
     pub fn next(&mut self, chunk: &[u8]) -> Result<PageRead, PageReadError>
         ensures within { IfOk result (λ read. read.taken ≤ length chunk.now) }
@@ -169,14 +176,21 @@ impl PageReader {
         ensures whole { IfOk result (λ read. IfNone read.tag (read.taken ≡ length chunk.now)) }
         ensures limit { OnOk result (self.new.limit ≡ self.old.limit) }
         ensures decoded { OnOk result (self.new.page.decoded ≡ self.old.page.decoded) }
+        ensures doubts { IfOk result (λ read. self.new.doubts
+            ≡ doubts_after self.old.doubts (page_tags_from self.old.page (take read.taken chunk.now))) }
         ensures goes_on { OnOk result (self.new.failed ≡ false) }
         ensures short { OnOk result (FirstIsLonger self.old.limit (page_tags_from self.old.page chunk.now) → ⊥) }
+        ensures clear { OnOk result (FirstIsAmbiguous self.old.doubts (page_tags_from self.old.page chunk.now) → ⊥) }
         ensures failed { (result ≡ Err PageReadError.Failed) ↔ (self.old.failed ≡ true) }
         ensures page_too_long { (result ≡ Err PageReadError.PageTooLong)
             ↔ ((self.old.failed ≡ false) × (2 ^ 64 ≤ self.old.page.reader.at + length chunk.now)) }
         ensures tag_too_long { (result ≡ Err PageReadError.TagTooLong)
             ↔ ((self.old.failed ≡ false) × (self.old.page.reader.at + length chunk.now < 2 ^ 64)
             × FirstIsLonger self.old.limit (page_tags_from self.old.page chunk.now)) }
+        ensures ambiguous { (result ≡ Err PageReadError.Ambiguous)
+            → (self.old.failed ≡ false) × (self.old.page.reader.at + length chunk.now < 2 ^ 64)
+            × (FirstIsLonger self.old.limit (page_tags_from self.old.page chunk.now) → ⊥)
+            × FirstIsAmbiguous self.old.doubts (page_tags_from self.old.page chunk.now) }
         ensures refused { OnErr result (self.new.failed ≡ true) }
     {
         if self.failed {
@@ -195,22 +209,25 @@ impl PageReader {
             });
         };
         let decoded = self.decoded;
-        match take_tag(
+        let placed = match take_tag(
             &mut self.tags,
             &mut self.elements,
             &mut self.outlines,
             decoded,
             tag,
         ) {
-            Ok(placed) => {
-                self.failed = false;
-                Ok(PageRead {
-                    taken: read.taken,
-                    tag: Some(placed),
-                })
-            }
-            Err(_) => Err(PageReadError::Memory),
+            Ok(placed) => placed,
+            Err(_) => return Err(PageReadError::Memory),
+        };
+        let name = placed.name(&self.tags.bytes);
+        if note_tag(&mut self.doubts, name, placed.tag.is_end) {
+            return Err(PageReadError::Ambiguous);
         }
+        self.failed = false;
+        Ok(PageRead {
+            taken: read.taken,
+            tag: Some(placed),
+        })
     }
 }
 

@@ -3,7 +3,7 @@
 ghost use Rattle.std.specs.Prelude.{◌≡◌, ◌∷◌, [], true, false, codes};
 ghost use Rattle.lol_base.specs.declared.namespace.Namespace.TheVariants.{Html, MathML, Svg};
 ghost use Rattle.lol_machine.specs.Events.{End};
-ghost use Rattle.lol_page.specs.PageRows.{tags_read, tags_said, page_text_rows, point_rows, coded_point_rows, breakout_rows, end_rows, places_read, lines_page, place, start, attribute};
+ghost use Rattle.lol_page.specs.PageRows.{tags_read, tags_said, page_text_rows, point_rows, coded_point_rows, breakout_rows, end_rows, places_read, lines_page, place, start, attribute, refusals_read, reads_on, select_rows, frameset_rows, template_rows};
 ghost use Rattle.lol_page.specs.Pages.{page_events};
 
 /// Texts of elements, raw in HTML alone, and CDATA sections outside it.
@@ -47,4 +47,20 @@ pub fn values()
         ≡ start (codes "a") Html (attribute (codes "b") (codes "c&amp;d") ∷ []) false ∷ [] }
     ensures point { tags_read true (coded_point_rows Html) ≡ tags_said (coded_point_rows Html) }
     ensures no_point { tags_read false (coded_point_rows MathML) ≡ tags_said (coded_point_rows MathML) }
+{}
+
+/// Start tags that are ambiguous in a `select`.
+pub fn selects()
+    ensures with_scripts { refusals_read true select_rows ≡ tags_said select_rows }
+    ensures without_scripts { refusals_read false (reads_on (codes "<select><noscript>") ∷ []) ≡ [] ∷ [] }
+{}
+
+/// Those behind a `frameset`.
+pub fn framesets()
+    ensures { refusals_read true frameset_rows ≡ tags_said frameset_rows }
+{}
+
+/// Those in templates.
+pub fn templates()
+    ensures { refusals_read true template_rows ≡ tags_said template_rows }
 {}

@@ -1,6 +1,6 @@
 //! How pages are read.
 
-ghost use Rattle.std.specs.Prelude.{◌≡◌, true};
+ghost use Rattle.std.specs.Prelude.{◌≡◌, false, true};
 
 /// How a page is read.
 #[derive(Clone, Copy, Debug, PartialEq, Eq)]
@@ -11,10 +11,17 @@ pub struct PageSettings {
     pub decoded: bool,
     /// The most bytes of a tag. A longer one is refused.
     pub max_tag_bytes: u64,
+    /// Whether a page is refused at a start tag such as `<xmp>` in a `select`, behind which a browser's tree decides how text is read.
+    pub strict: bool,
 }
 
 impl Default for PageSettings {
-    ghost is_default = { λ s. s ≡ record { scripting = true; decoded = true; max_tag_bytes = 1048576 } };
+    ghost is_default = { λ s. s ≡ record {
+      scripting = true;
+      decoded = true;
+      max_tag_bytes = 1048576;
+      strict = false;
+    } };
 
     /// As a browser that runs scripts reads pages: values are decoded. A tag has at most a mebibyte.
     fn default() -> Self {
@@ -22,6 +29,7 @@ impl Default for PageSettings {
             scripting: true,
             decoded: true,
             max_tag_bytes: 1_048_576,
+            strict: false,
         }
     }
 }

@@ -4,7 +4,7 @@ ghost use Rattle.std.specs.Prelude.{◌<◌};
 
 use crate::pages::{AS_WRITTEN, push_number};
 use lol_matcher::{Matcher, OpenElement};
-use lol_page_matcher::{Page, PageError};
+use lol_page::{Page, PageError};
 use std::alloc::Global;
 use std::test::Fail;
 
@@ -68,7 +68,7 @@ fn push_tags(page: &mut Page<u64>, chunk: &[u8], written: &mut Written) -> Resul
 fn depths_in_chunks(alloc: Global, size: usize) -> Option<Vec<u8>>
     requires { 0 < size }
 {
-    let matcher = Matcher::builder(alloc).build_with_values::<u64>().ok()?;
+    let matcher = Matcher::builder(alloc).build::<u64>().ok()?;
     let mut page = Page::new(alloc, matcher, AS_WRITTEN);
     let mut written = Written {
         text: Vec::new(alloc),

@@ -11,8 +11,8 @@ fn explains_beside_a_matcher(rt: HostRuntime) -> Result<(), Fail> {
     texts.add(7, read_selector(alloc, "main p, main > a")?)?;
     let Numbering { ast, mut explainer } = texts.number_items()?;
     let mut builder = Matcher::builder(alloc);
-    builder.set_tree(ast);
-    let mut matcher = builder.build()?;
+    builder.ast = ast;
+    let mut matcher: Matcher = builder.build()?;
     explainer.index(matcher.machine().program())?;
     let mut ids = matcher.list_for_ids(alloc)?;
 

@@ -4,8 +4,7 @@ ghost use Rattle.std.specs.Prelude.{◌<◌};
 
 use crate::pages::{AS_WRITTEN, push_number};
 use lol_matcher::{MatchInfo, Matcher};
-use lol_page::{PageSettings, PlacedTag};
-use lol_page_matcher::{Page, PageError};
+use lol_page::{Page, PageError, PageSettings, PlacedTag};
 use std::alloc::{AllocError, Global};
 use std::test::Fail;
 

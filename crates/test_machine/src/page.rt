@@ -27,7 +27,7 @@ fn hands_out_a_value(rt: HostRuntime) -> Result<(), Fail> {
     let mut handed_out = HandedOut {
         values: Vec::new(rt.alloc()),
     };
-    let mut matcher = builder.build_with_values::<u64>()?;
+    let mut matcher = builder.build::<u64>()?;
     assert!(rt; matcher.start(b"div", Namespace::Html) == Ok(Started::Reported));
     assert!(rt; matcher.has_opened() && matcher.replace_value(Some(7)) == None);
     matcher.end_with(b"div", &mut |element| handed_out.keep(element));

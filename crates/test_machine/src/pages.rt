@@ -17,6 +17,7 @@ pub(crate) const AS_WRITTEN: PageSettings = PageSettings {
     scripting: false,
     decoded: false,
     max_tag_bytes: 100,
+    strict: false,
 };
 
 pub(crate) fn push_number(number: u64, out: &mut Vec<u8>) -> Result<(), AllocError> {
@@ -106,6 +107,34 @@ fn limit_of_a_tag(rt: HostRuntime) -> Result<(), Fail> {
     let mut reader = PageReader::new(rt.alloc(), at_most(8));
     assert_eq!(rt; nine_bytes(&mut reader), Err(PageReadError::TagTooLong));
     assert_eq!(rt; nine_bytes(&mut reader), Err(PageReadError::Failed));
+    Ok(())
+}
+
+// The length of a tag that `select` makes ambiguous.
+fn length_in_select(reader: &mut PageReader) -> Result<Option<u64>, PageReadError> {
+    reader.next(b"<select>")?;
+    reader.next(b"<xm")?;
+    let read = reader.next(b"p>")?;
+    Ok(
+        read.tag
+            .map(|placed| placed.tag.end.saturating_sub(placed.tag.start)),
+    )
+}
+
+#[test]
+fn ambiguous_tag(rt: HostRuntime) -> Result<(), Fail> {
+    let mut reader = PageReader::new(rt.alloc(), AS_WRITTEN);
+    assert_eq!(rt; length_in_select(&mut reader), Ok(Some(5)));
+    let settings = PageSettings {
+        strict: true,
+        ..AS_WRITTEN
+    };
+    let mut reader = PageReader::new(rt.alloc(), settings);
+    assert_eq!(rt;
+        length_in_select(&mut reader),
+        Err(PageReadError::Ambiguous)
+    );
+    assert_eq!(rt; length_in_select(&mut reader), Err(PageReadError::Failed));
     Ok(())
 }
 

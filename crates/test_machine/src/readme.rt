@@ -18,7 +18,7 @@ fn reports_a_link(rt: HostRuntime) -> Result<(), Fail> {
     let mut builder = Matcher::builder(alloc);
     builder.add(0, "main a[href^='https:']")?;
     builder.add(1, "img:not([alt])")?;
-    let mut matcher = builder.build()?;
+    let mut matcher: Matcher = builder.build()?;
 
     let mut attributes = Attributes::new(alloc);
     attributes.push(b"href", Some(b"https://example.org"))?;

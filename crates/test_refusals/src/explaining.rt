@@ -21,8 +21,8 @@ pub(crate) fn explaining_matcher(alloc: Global) -> Result<Met, Stop> {
 /// A matcher that was told of both tags; the memory is the scenario's own.
 fn told(alloc: Global, ast: Ast) -> Result<Matcher, Stop> {
     let mut builder = Matcher::builder(alloc);
-    builder.set_tree(ast);
-    let mut matcher = builder.build()?;
+    builder.ast = ast;
+    let mut matcher: Matcher = builder.build()?;
     start(&mut matcher, b"div")?;
     start(&mut matcher, b"p")?;
     Ok(matcher)

@@ -31,7 +31,7 @@ fn add_all(builder: &mut MatcherBuilder) -> Result<Met, Stop> {
 }
 
 fn built(builder: MatcherBuilder) -> Result<Counting, AllocError> {
-    builder.build_with_values()
+    builder.build()
 }
 
 fn build_and_tell(builder: MatcherBuilder, class: &Attributes) -> Result<Met, Stop> {

@@ -7,8 +7,8 @@ use Rattle.std.proofs.lemmas.List.{append-nil, take_rest}
 use Rattle.lol_program.specs.declared.ast.Ast.{Ast}
 use Rattle.lol_machine.specs.Views.{selectors}
 use Rattle.lol_page.specs.Pages.{fresh_page, page_tags_from}
-use Rattle.lol_page_matcher.specs.PageMatches.{PageMatch, matches_told, page_matches}
-use Rattle.lol_page_matcher.specs.declared.page.Page.{Page}
+use Rattle.lol_page.specs.PageMatches.{PageMatch, matches_told, page_matches}
+use Rattle.lol_page.specs.declared.page.Page.{Page}
 use Rattle.zugrenja.specs.Lines.{end_of, line_of, lines_of, page_lines}
 use Rattle.zugrenja.specs.PageReadings.{matches_in, told_nothing}
 use Rattle.zugrenja.specs.declared.lines.Style.{Style}

@@ -2,7 +2,7 @@
 use Rattle.std.specs.Prelude.{ℕ, true, false, List, [], ◌∷◌, ◌++◌, codes, Some}
 use Rattle.lol_base.specs.declared.namespace.Namespace.TheVariants.{Html}
 use Rattle.lol_machine.specs.Answers.{Match}
-use Rattle.lol_page_matcher.specs.PageMatches.{PageMatch}
+use Rattle.lol_page.specs.PageMatches.{PageMatch}
 
 abbrev pub under : ℕ → Match
 under id = record { id = id; with_content = true }

@@ -13,7 +13,7 @@ use Rattle.lol_page.specs.PageTags.{PageTag}
 use Rattle.lol_page.specs.Pages.{attributes_read}
 use Rattle.lol_page.specs.Readings.{with_text}
 use Rattle.lol_page.specs.declared.page_reader.PlacedTag.{PlacedTag}
-use Rattle.lol_page_matcher.specs.PageMatches.{PageMatch}
+use Rattle.lol_page.specs.PageMatches.{PageMatch}
 use Rattle.zugrenja.specs.Json.{json_member, json_string}
 use Rattle.zugrenja.specs.declared.arguments.Output.{Output}
 use Rattle.zugrenja.specs.declared.arguments.Output.TheVariants.{Tags, Ids, Count, Json, Attribute}

@@ -4,8 +4,8 @@ use Rattle.std.specs.Io.KnownBytes.{Appends, Consumes, IsAtEnd}
 use Rattle.lol_program.specs.declared.ast.Ast.{Ast}
 use Rattle.lol_page.specs.Pages.{page_tags_from}
 use Rattle.lol_matcher.specs.Told.{Told}
-use Rattle.lol_page_matcher.specs.PageMatches.{PageMatch, matches_told}
-use Rattle.lol_page_matcher.specs.declared.page.Page.{Page}
+use Rattle.lol_page.specs.PageMatches.{PageMatch, matches_told}
+use Rattle.lol_page.specs.declared.page.Page.{Page}
 use Rattle.zugrenja.specs.Lines.{page_lines}
 use Rattle.zugrenja.specs.declared.lines.Style.{Style}
 

@@ -25,6 +25,8 @@ pub struct Settings {
     pub output: Output,
     /// Whether the values of attributes are decoded.
     pub decoded: bool,
+    /// Whether ambiguous pages are refused.
+    pub strict: bool,
     /// The files of selectors, by name.
     pub files: Vec<String>,
     pub selectors: Vec<String>,
@@ -105,6 +107,7 @@ impl Arguments {
             settings: Settings {
                 output: Output::Tags,
                 decoded: true,
+                strict: false,
                 files: Vec::new(alloc),
                 selectors: Vec::new(alloc),
                 pages: Vec::new(alloc),
@@ -131,6 +134,7 @@ impl Arguments {
             "-h" | "--help" => self.help = true,
             "--as-written" => {}
             "--raw" => self.settings.decoded = false,
+            "--strict" => self.settings.strict = true,
             "--ids" => return self.set_output(Output::Ids, argument),
             "--count" => return self.set_output(Output::Count, argument),
             "--json" => return self.set_output(Output::Json, argument),

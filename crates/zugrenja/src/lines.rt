@@ -21,12 +21,14 @@ use lol_references::{append_decoded, has_ampersand};
 use lol_tags::push_outlines;
 use std::alloc::AllocError;
 
-/// How the matches of a page are written.
+/// How a page is read, and its matches are written.
 #[derive(Drop)]
 pub struct Style {
     pub output: Output,
     /// Whether the values of attributes are decoded, before they are matched and where they are written.
     pub decoded: bool,
+    /// Whether the page is refused if it is ambiguous.
+    pub strict: bool,
     /// Whether the numbers of the selectors stand before the tags.
     pub numbered: bool,
     /// Whether the page's name stands before each line.

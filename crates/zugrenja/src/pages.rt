@@ -2,15 +2,14 @@
 
 ghost use Rattle.std.specs.Prelude.{◌≡◌, ◌+◌, ◌<◌, ◌≤◌, ◌++◌, true, length, take, IfOk, OnOk};
 ghost use Rattle.std.specs.Io.KnownBytes.{Appends, Consumes, IsAtEnd};
-ghost use Rattle.lol_page_matcher.specs.PageMatches.{ReadsOn, page_matches};
+ghost use Rattle.lol_page.specs.PageMatches.{ReadsOn, page_matches};
 ghost use Rattle.lol_machine.specs.Views.{selectors};
 ghost use Rattle.zugrenja.specs.Lines.{end_of, lines_of};
 ghost use Rattle.zugrenja.specs.PageReadings.{WritesPage, matches_in, told_nothing};
 
 use crate::lines::Style;
 use lol_matcher::Matcher;
-use lol_page::{PageReadError, PageSettings};
-use lol_page_matcher::{Page, PageError};
+use lol_page::{Page, PageError, PageReadError, PageSettings};
 use std::alloc::Global;
 use std::io;
 use std::io::{Read, Write};
@@ -55,6 +54,7 @@ pub fn write_page<R: Read, W: Write>(
 {
     let settings = PageSettings {
         decoded: style.decoded,
+        strict: style.strict,
         ..PageSettings::default()
     };
     let mut page = Page::new(alloc, matcher, settings);

@@ -6,7 +6,7 @@ use crate::arguments::Settings;
 use crate::lines::Style;
 use crate::pages::{PageFault, write_page};
 use crate::selectors::{Refused, build_matcher, read_selectors};
-use lol_page_matcher::PageError;
+use lol_page::PageError;
 use std::rt::Files;
 use std::{fs, io};
 
@@ -16,6 +16,7 @@ pub fn search<R: Files + Input + Print + Eprint + AllocGlobal>(rt: &R, settings:
     let Settings {
         output,
         decoded,
+        strict,
         files,
         selectors: given,
         pages,
@@ -26,6 +27,7 @@ pub fn search<R: Files + Input + Print + Eprint + AllocGlobal>(rt: &R, settings:
     let mut style = Style {
         output,
         decoded,
+        strict,
         numbered: selectors.len() > 1,
         named: pages.len() > 1,
         page: None,

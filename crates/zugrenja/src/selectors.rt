@@ -48,12 +48,12 @@ pub fn build_matcher(alloc: Global, selectors: &[String]) -> Result<Matcher, Ref
 }
 
 fn build_fresh(mut builder: MatcherBuilder, number: MatchId) -> Result<Matcher, Refused>
-    requires { builder.esi ≡ false }
+    requires { builder.enable_esi_tags ≡ false }
     ensures pairs { IfOk result (λ matcher. pairs_of matcher.told.ast ≡ pairs_of builder.ast) }
     ensures fresh { IfOk result (λ matcher. matcher.told ≡ told_nothing matcher.told.ast false) }
     ensures memory { IfErr result (λ refused. refused.error ≡ AddError.Memory) }
 {
-    builder.with_rows_from(ROWS_PAY_FROM);
+    builder.ast = builder.ast.with_rows_from(ROWS_PAY_FROM);
     match builder.build() {
         Ok(matcher) => Ok(matcher),
         Err(_) => Err(no_memory(number)),
@@ -62,7 +62,7 @@ fn build_fresh(mut builder: MatcherBuilder, number: MatchId) -> Result<Matcher, 
 
 fn add_numbered(builder: &mut MatcherBuilder, number: MatchId, text: &str) -> Result<(), Refused>
     ensures added { OnOk result (Adds number text.now builder.old.ast builder.new.ast) }
-    ensures esi { builder.new.esi ≡ builder.old.esi }
+    ensures esi { builder.new.enable_esi_tags ≡ builder.old.enable_esi_tags }
     ensures number { IfErr result (λ refused. refused.number ≡ number) }
     ensures refused { IfErr result (λ refused. IsRefused text.now refused.error) }
 {

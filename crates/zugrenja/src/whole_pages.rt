@@ -27,6 +27,7 @@ fn written(
     let style = Style {
         output,
         decoded: true,
+        strict: false,
         numbered: selectors.len() > 1,
         named: page.is_some(),
         page,
@@ -123,6 +124,7 @@ fn coded_value(alloc: Global, decoded: bool, selector: &str) -> Option<Vec<u8>> 
     let style = Style {
         output: Output::Attribute(String::from_str(alloc, "href").ok()?),
         decoded,
+        strict: false,
         numbered: false,
         named: false,
         page: None,
@@ -148,6 +150,31 @@ fn coded_values(rt: HostRuntime) -> Result<(), Fail> {
     Ok(())
 }
 
+fn counted(alloc: Global, strict: bool) -> Option<Vec<u8>> {
+    let style = Style {
+        output: Output::Count,
+        decoded: true,
+        strict,
+        numbered: false,
+        named: false,
+        page: None,
+    };
+    searched(alloc, &style, &["img"], b"<select><xmp><img></xmp>")
+}
+
+#[test]
+fn ambiguous_page(rt: HostRuntime) -> Result<(), Fail> {
+    let alloc = rt.alloc();
+    assert!(rt;
+        counted(alloc, false).is_some_and(|written| written.as_slice() == "0\n".as_bytes())
+    );
+    assert!(rt; counted(alloc, true).is_none());
+    assert!(rt;
+        matches!(asked(alloc, &["a", "--strict"]), Ok(Asked::Search(settings)) if settings.strict)
+    );
+    Ok(())
+}
+
 fn asked(alloc: Global, texts: &[&str]) -> Result<Asked, ArgumentError> {
     read_arguments(alloc, strings(alloc, texts)?.into_iter())
 }
@@ -163,6 +190,7 @@ fn arguments(rt: HostRuntime) -> Result<(), Fail> {
     };
     assert!(rt; settings.output == Output::Attribute(String::from_str(alloc, "--")?));
     assert!(rt; settings.decoded);
+    assert!(rt; !settings.strict);
     assert!(rt; settings.files == strings(alloc, &["-h"])?);
     assert!(rt; settings.selectors == strings(alloc, &["a", "b"])?);
     assert!(rt; settings.pages == strings(alloc, &["-f", "--"])?);

@@ -2,8 +2,8 @@
 use Rattle.std.proofs.Common.{◌≡◌, ℕ, ◌+◌, ◌++◌, List, length, take, drop, subst, sym, ap, ◌∙◌}
 use Rattle.std.proofs.Math.Seq.{take-add}
 use Rattle.std.proofs.lemmas.List.{take_rest}
-use Rattle.lol_page_matcher.specs.MatchLaws.{matches_both, reads_both}
-use Rattle.lol_page_matcher.specs.PageMatches.{ReadsOn}
+use Rattle.lol_page.specs.MatchLaws.{matches_both, reads_both}
+use Rattle.lol_page.specs.PageMatches.{ReadsOn}
 use Rattle.zugrenja.specs.Lines.{lines_of}
 use Rattle.zugrenja.specs.PageReadings.{matches_in}
 use Rattle.zugrenja.proofs.PageParts.{lines_added, count_added, part-within}

@@ -1,5 +1,5 @@
 use Rattle.std.proofs.Common.{◌≡◌, ◌+◌, ◌-◌, ◌≤◌, ◌++◌, take, length}
-use Rattle.lol_page_matcher.specs.PageMatches.{ReadsOn}
+use Rattle.lol_page.specs.PageMatches.{ReadsOn}
 use Rattle.zugrenja.specs.Lines.{lines_of}
 use Rattle.zugrenja.specs.PageReadings.{matches_in}
 use Rattle.zugrenja.proofs.pages.push_matches.Given as goal

@@ -1,8 +1,8 @@
 use Rattle.std.proofs.Common.{◌≡◌, ℕ, ◌+◌, ◌++◌, [], List, length, take, subst, sym, ap, ◌∙◌, refl, arith, length-append}
 use Rattle.std.specs.Io.KnownBytes.{Appends, Consumes}
 use Rattle.std.proofs.KnownBytes.{Appends-nil, Consumes-nil, Consumes-trans}
-use Rattle.lol_page_matcher.specs.MatchLaws.{matches_both, reads_both, reads_nothing}
-use Rattle.lol_page_matcher.specs.PageMatches.{ReadsOn}
+use Rattle.lol_page.specs.MatchLaws.{matches_both, reads_both, reads_nothing}
+use Rattle.lol_page.specs.PageMatches.{ReadsOn}
 use Rattle.zugrenja.specs.Lines.{lines_of}
 use Rattle.zugrenja.specs.PageReadings.{matches_in}
 use Rattle.zugrenja.proofs.PageParts.{lines_written, page_written, consumed_all}

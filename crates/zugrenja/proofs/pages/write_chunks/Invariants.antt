@@ -1,6 +1,6 @@
 use Rattle.std.proofs.Common.{◌≡◌, ℕ, List, length}
 use Rattle.std.specs.Io.KnownBytes.{Appends, Consumes}
-use Rattle.lol_page_matcher.specs.PageMatches.{ReadsOn}
+use Rattle.lol_page.specs.PageMatches.{ReadsOn}
 use Rattle.zugrenja.specs.Lines.{lines_of}
 use Rattle.zugrenja.specs.PageReadings.{matches_in}
 use Rattle.zugrenja.proofs.pages.write_chunks.Given as goal

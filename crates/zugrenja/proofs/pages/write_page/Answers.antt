@@ -5,7 +5,7 @@ use Rattle.lol_matcher.specs.Told.{Matching}
 use Rattle.lol_machine.specs.Views.{selectors}
 use Rattle.lol_page.specs.Pages.{fresh_page}
 use Rattle.lol_page.specs.declared.settings.PageSettings.{PageSettings}
-use Rattle.lol_page_matcher.specs.PageMatches.{PageMatch, page_matches}
+use Rattle.lol_page.specs.PageMatches.{PageMatch, page_matches}
 use Rattle.zugrenja.specs.Lines.{page_lines}
 use Rattle.zugrenja.specs.PageReadings.{matches_in}
 use Rattle.zugrenja.proofs.PageParts.{fresh_matches}

@@ -8,5 +8,5 @@ abbrev pub invariant-loop-selector : goal.invariant-loop-selector
 invariant-loop-selector l = record {
   number : l.number ≡ l.selector-index;
   has : HasSelectors (map (λ text. string_bytes text) (take l.selector-index l.selectors)) l.builder.ast;
-  esi : l.builder.esi ≡ false;
+  esi : l.builder.enable_esi_tags ≡ false;
 }

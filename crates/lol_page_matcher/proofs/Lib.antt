@@ -1,3 +1,0 @@
-pub mod More
-pub mod Telling
-mod Plain

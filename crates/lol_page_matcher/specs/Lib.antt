@@ -1,4 +1,0 @@
-pub mod PageMatches
-pub mod PageRefusals
-pub mod MatchLaws
-pub mod HeldAttributes
