@@ -49,5 +49,9 @@ pub(crate) fn outlines_of(
 ) -> Result<AttributeBuffer, AllocError>
     ensures { IfOk result (λ outlines. outlines.items ≡ map outline_of places.now) }
 {
-    places.iter().map(|place| place.outline()).collect(alloc)
+    let mut outlines = Vec::new(alloc);
+    for place in places {
+        outlines.push(place.outline())?;
+    }
+    Ok(outlines)
 }
