@@ -1,5 +1,5 @@
 -- From what is read to what is accepted.
-use Rattle.std.proofs.Common.{◌≡◌, ℕ, ◌⊎◌, inl, inr, false, List, Ok, Err, IfOk, IfErr, refl, ap}
+use Rattle.std.proofs.Common.{◌≡◌, ℕ, ◌⊎◌, inl, inr, false, List, Ok, Err, refl, ap}
 use Rattle.std.specs.Str.{chars}
 use Rattle.lol_css.specs.Points.{preprocessed}
 use Rattle.lol_css.specs.Tokens.{Token, tokens_of}
@@ -9,11 +9,7 @@ use Rattle.lol_css.specs.Rules.{Read, refused, giving, Outside}
 use Rattle.lol_css.specs.Reading.{selector, list, inner_list}
 use Rattle.lol_css.specs.Accepting.{judged, with_cause, accept}
 use Rattle.lol_css.specs.Judging.{Judged}
-use Rattle.lol_css.specs.Views.{FailsUnlessMemory, judgement}
-use Rattle.lol_css.specs.TreeViews.{list_of}
-use Rattle.lol_css.specs.declared.selector.SelectorList.{SelectorList}
-use Rattle.lol_css.specs.declared.selectors.judged.Judged as late
-use Rattle.lol_css.specs.declared.selectors.judged.Judged.TheVariants.{Kept, Refused}
+use Rattle.lol_css.specs.Views.{FailsUnlessMemory}
 use Rattle.lol_css.specs.declared.error.SelectorError.{SelectorError}
 use Rattle.lol_css.specs.declared.error.SelectorError.TheVariants.{Memory}
 use Rattle.lol_css.proofs.Fusing.{giving-ok, giving-err, fails_cases}
@@ -41,11 +37,3 @@ pub accept-read : (text : List ℕ) (found : Judged trees.Items) (rest : List To
 accept-read text found rest e =
     let f = giving-ok (judged false) (list (inner_list 128) Outside (tokens_of (preprocessed (chars text)))) found rest e in
     accept_read text f.x rest found f.is f.gives
-
-pub accepts : (text : List ℕ) (found : late.Judged SelectorList) → accept text ≡ with_cause (judgement list_of found) → IfOk (with_cause (judgement (λ selector. selector) found)) (λ selector. accept text ≡ Ok (list_of selector))
-accepts text (Kept selector) e = e
-accepts text (Refused refusal) e = tt
-
-pub refuses : (text : List ℕ) (found : late.Judged SelectorList) → accept text ≡ with_cause (judgement list_of found) → IfErr (with_cause (judgement (λ selector. selector) found)) (λ cause. (cause ≡ Memory) ⊎ (accept text ≡ Err cause))
-refuses text (Kept selector) e = tt
-refuses text (Refused refusal) e = inr e

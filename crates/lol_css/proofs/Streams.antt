@@ -7,7 +7,7 @@ use Rattle.std.specs.Str.{encode_utf8_all}
 use Rattle.std.specs.Option.{option_map}
 use Rattle.lol_css.specs.Points.{is, first_passes, past, many, first_that, ◌or◌, is_decimal, is_sign, is_in_name, is_name_start, is_newline, is_white_space, begins_escape, begins_name, starts_identifier, starts_number, escaped_point, name, name_point}
 use Rattle.std.specs.Str.{byte}
-use Rattle.lol_css.specs.declared.syntax.tokens.MatchOperator.{MatchOperator}
+use Rattle.lol_base.specs.declared.comparison.AttrSelectorOperator.{AttrSelectorOperator}
 use Rattle.lol_css.specs.Tokens.{match_operator, Token, Space, Quoted, BadString, Hash, Number, Dimension, Percentage, Function, Ident, Match, Delim, Cdc, comment, in_comment, space, string_escape, string_piece, string_text, string_after, string, hash, after_fraction, after_exponent, numeral, number, cdc, identifier, match_sign, delim, next, somes, with_first, tokens_of, concatenation}
 use Rattle.lol_css.proofs.Many.{Shrinks, many-some, many-none, some_same, at_most-shorter, past-shorter, escaped_point-shorter, name_point-shrinks, name-first}
 use Rattle.lol_css.proofs.Loops.{one-shrinks, in_comment-shrinks}
@@ -214,7 +214,7 @@ identifier_leaves text =
     (some_leaves (Some (Ident n.0)) n.1 (length text) (identifier_shrinks text h)))
     (none_leaves (length text))
 
-operator_leaves : (o : Option MatchOperator) (c : ℕ) (cs : List ℕ) → Leaves (option_map (λ operator. (Some (Match operator), drop 1 cs)) o) (length (c ∷ cs))
+operator_leaves : (o : Option AttrSelectorOperator) (c : ℕ) (cs : List ℕ) → Leaves (option_map (λ operator. (Some (Match operator), drop 1 cs)) o) (length (c ∷ cs))
 operator_leaves None c cs = none_leaves (length (c ∷ cs))
 operator_leaves (Some operator) c cs = some_leaves (Some (Match operator)) (drop 1 cs) (length (c ∷ cs)) (omega (arith, length-drop 1 cs))
 

@@ -10,9 +10,8 @@ use Rattle.lol_css.specs.Trees.{Simple, LocalName, AnyName, NoNamespace, Id, Cla
 use Rattle.lol_css.specs.Drafts.{Step, PlacedStep, By, NextSibling, SubsequentSibling, DraftPart, Plain, LatePseudoClass, LateNamespace, Logical, DraftCompound, Nothing, With, DraftItem, First, Then, DraftItems, NoItems, And}
 use Rattle.lol_css.specs.Rules.{Read, refused, ◌>>=◌, giving, is_delim, is_space, skip_space, Nesting, Outside, InFunction, InBrackets, at_end, at_stop, required_token, block_end, lowercase, says, ident_of}
 use Rattle.lol_css.specs.AnPlusB.{an_plus_b}
-use Rattle.lol_css.specs.declared.syntax.tokens.MatchOperator.TheVariants as operators
 use Rattle.lol_base.specs.declared.comparison.AttrSelectorOperator.{AttrSelectorOperator}
-use Rattle.lol_base.specs.declared.comparison.AttrSelectorOperator.TheVariants.{Equal, Includes, DashMatch, Prefix, Substring, Suffix}
+use Rattle.lol_base.specs.declared.comparison.AttrSelectorOperator.TheVariants.{Equal}
 use Rattle.lol_base.specs.declared.comparison.ParsedCaseSensitivity.{ParsedCaseSensitivity}
 use Rattle.lol_base.specs.declared.comparison.ParsedCaseSensitivity.TheVariants.{ExplicitCaseSensitive, AsciiCaseInsensitive, CaseSensitive, AsciiCaseInsensitiveIfInHtmlElementInHtmlDocument}
 use Rattle.lol_css.specs.declared.selector.Combinator.TheVariants.{Child, Descendant}
@@ -47,11 +46,7 @@ attribute_name (token ∷ tokens) = refused MissingAttributeName (token ∷ toke
 
 abbrev pub operator_of : Token → Option AttrSelectorOperator
 operator_of (Delim c) = if c == byte "=" then Some Equal else None
-operator_of (Match operators.Include) = Some Includes
-operator_of (Match operators.Dash) = Some DashMatch
-operator_of (Match operators.Prefix) = Some Prefix
-operator_of (Match operators.Suffix) = Some Suffix
-operator_of (Match operators.Substring) = Some Substring
+operator_of (Match operator) = Some operator
 operator_of _ = None
 
 abbrev pub written_value : Token → Option (List ℕ)

@@ -7,8 +7,8 @@ use Rattle.std.specs.Option.{option_map}
 use Rattle.std.specs.Str.{byte}
 use Rattle.lol_css.specs.declared.syntax.tokens.Sign.{Sign}
 use Rattle.lol_css.specs.declared.syntax.tokens.Sign.TheVariants.{Plus, Minus}
-use Rattle.lol_css.specs.declared.syntax.tokens.MatchOperator.{MatchOperator}
-use Rattle.lol_css.specs.declared.syntax.tokens.MatchOperator.TheVariants.{Include, Dash, Prefix, Suffix, Substring}
+use Rattle.lol_base.specs.declared.comparison.AttrSelectorOperator.{AttrSelectorOperator}
+use Rattle.lol_base.specs.declared.comparison.AttrSelectorOperator.TheVariants.{Includes, DashMatch, Prefix, Suffix, Substring}
 use Rattle.lol_css.specs.Points.{is, first_passes, past, many, first_that, is_newline, is_white_space, is_decimal, is_sign, decimal, ◌or◌, escaped_point, begins_escape, is_in_name, name, starts_identifier, starts_number, preprocessed}
 
 -- a number as it is written: its sign if one stands there, and its digits' value if it has neither fraction nor exponent
@@ -28,7 +28,7 @@ pub data Token : Type 0 where
   Cdc : Token
   Function : List ℕ → Token
   Ident : List ℕ → Token
-  Match : MatchOperator → Token  -- `~=` and the like
+  Match : AttrSelectorOperator → Token  -- `~=` and the like
   Delim : ℕ → Token
 
 -- what a row gives: nothing where it doesn't fit, else its token (none for a comment) and what is left
@@ -126,10 +126,10 @@ identifier text =
     else None
 
 -- row 8: `~=`, `|=`, `^=`, `$=`, `*=`
-abbrev pub match_operator : ℕ → Option MatchOperator
+abbrev pub match_operator : ℕ → Option AttrSelectorOperator
 match_operator c =
-    if c == byte "~" then Some Include
-    else (if c == byte "|" then Some Dash
+    if c == byte "~" then Some Includes
+    else (if c == byte "|" then Some DashMatch
     else (if c == byte "^" then Some Prefix
     else (if c == byte "$" then Some Suffix
     else (if c == byte "*" then Some Substring else None))))

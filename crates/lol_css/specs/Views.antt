@@ -14,9 +14,7 @@ use Rattle.lol_css.specs.declared.selector.Combinator.{Combinator}
 use Rattle.lol_css.specs.declared.error.SelectorError.{SelectorError}
 use Rattle.lol_css.specs.declared.error.SelectorError.TheVariants.{UnexpectedEnd, Memory}
 use Rattle.lol_css.specs.declared.selectors.refusals.RefusedItem.{RefusedItem}
-use Rattle.lol_css.specs.declared.selectors.judged.Judged.{Judged}
 use Rattle.lol_css.specs.declared.selectors.judged.Refusal.{Refusal}
-use Rattle.lol_css.specs.declared.selectors.judged.Judged.TheVariants.{Kept, Refused}
 use Rattle.lol_css.specs.declared.selectors.parser.Context.{Context}
 use Rattle.lol_css.specs.declared.syntax.reader.Nesting.{Nesting}
 use Rattle.lol_css.specs.declared.syntax.reader.Nesting.TheVariants.{Outside, InFunction, InBrackets}
@@ -110,11 +108,11 @@ abbrev pub refusal_of : Refusal → rules.Refusal
 refusal_of refusal = record { cause = refusal.cause; left = tokens.tokens_of refusal.left.now }
 
 -- what is kept, seen by view, or why it is refused late
-abbrev pub judgement : {X Y : Type 0} → (X → Y) → Judged X → Result Y rules.Refusal
-judgement view (Kept x) = Ok (view x)
-judgement view (Refused refusal) = Err (refusal_of refusal)
+abbrev pub judgement : {X Y : Type 0} → (X → Y) → Result X Refusal → Result Y rules.Refusal
+judgement view (Ok x) = Ok (view x)
+judgement view (Err refusal) = Err (refusal_of refusal)
 
-abbrev pub step_judgement : Judged Combinator → Result Combinator rules.Refusal
+abbrev pub step_judgement : Result Combinator Refusal → Result Combinator rules.Refusal
 step_judgement step = judgement (λ combinator. combinator) step
 
 -- what a rule reads, unless it refuses

@@ -29,7 +29,10 @@ impl SelectorsParser {
     {
         let points = preprocessed(alloc, text)?;
         let mut parser = Parser::outermost(alloc, points.as_slice());
-        parser.list()?.into_result()
+        match parser.list()? {
+            Ok(list) => Ok(list),
+            Err(refusal) => Err(refusal.cause),
+        }
     }
 }
 

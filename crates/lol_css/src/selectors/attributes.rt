@@ -15,11 +15,11 @@ ghost use Rattle.lol_css.specs.TreeViews.{part_of};
 use crate::error::SelectorError;
 use crate::selector::{CssString, SimpleSelector};
 use crate::selectors::judged::{Judged, Refusal};
-use crate::selectors::parser::Parser;
 use crate::syntax::reader::{Nesting, Reader};
 use crate::syntax::texts::Name;
-use crate::syntax::tokens::{MatchOperator, Token};
+use crate::syntax::tokens::Token;
 use lol_base::{AttrSelectorOperator, ParsedCaseSensitivity};
+use std::alloc::Global;
 
 /// The name after a bar, and whether `*` stands before the bar.
 fn name_after_bar<'a>(
@@ -83,11 +83,7 @@ fn operator(reader: &mut Reader<'_>) -> Result<AttrSelectorOperator, SelectorErr
 {
     let operator = match reader.expect(Nesting::InBrackets)? {
         Token::Delim('=') => AttrSelectorOperator::Equal,
-        Token::Match(MatchOperator::Include) => AttrSelectorOperator::Includes,
-        Token::Match(MatchOperator::Dash) => AttrSelectorOperator::DashMatch,
-        Token::Match(MatchOperator::Prefix) => AttrSelectorOperator::Prefix,
-        Token::Match(MatchOperator::Suffix) => AttrSelectorOperator::Suffix,
-        Token::Match(MatchOperator::Substring) => AttrSelectorOperator::Substring,
+        Token::Match(operator) => operator,
         _ => return Err(SelectorError::UnexpectedTokenInAttribute),
     };
     reader.advance();
@@ -209,67 +205,68 @@ fn case_sensitivity(
     Ok(found)
 }
 
-impl<'a> Parser<'a> {
-    /// The value that is compared with, a name or a quoted text.
-    #[tactic(auto, unfolding(crate::specs::Rules::required_token))]
-    fn value(&mut self) -> Result<CssString, SelectorError>
-        ensures reads { ReadsUnlessMemory (λ s. s) result self.new.reader
-            (giving utf8 (required_token InBrackets written_value UnexpectedTokenInAttribute self.old.reader)) }
-        ensures context { self.new.context ≡ self.old.context }
-    {
-        let value = match self.reader.expect(Nesting::InBrackets)? {
-            Token::Ident(name) => name.to_text(self.alloc)?,
-            Token::Quoted(quoted) => quoted.to_text(self.alloc)?,
-            _ => return Err(SelectorError::UnexpectedTokenInAttribute),
-        };
-        self.reader.advance();
-        Ok(value)
-    }
+/// The value that is compared with, a name or a quoted text.
+#[tactic(auto, unfolding(crate::specs::Rules::required_token))]
+fn value(alloc: Global, reader: &mut Reader<'_>) -> Result<CssString, SelectorError>
+    ensures { ReadsUnlessMemory (λ s. s) result reader.new
+        (giving utf8 (required_token InBrackets written_value UnexpectedTokenInAttribute reader.old)) }
+{
+    let value = match reader.expect(Nesting::InBrackets)? {
+        Token::Ident(name) => name.to_text(alloc)?,
+        Token::Quoted(quoted) => quoted.to_text(alloc)?,
+        _ => return Err(SelectorError::UnexpectedTokenInAttribute),
+    };
+    reader.advance();
+    Ok(value)
+}
 
-    /// What stands after the name.
-    #[tactic(auto, unfolding(crate::specs::Reading::comparison))]
-    fn comparison(&mut self, name: CssString) -> Result<SimpleSelector, SelectorError>
-        ensures reads { ReadsUnlessMemory part_of result self.new.reader
-            (giving trees.Plain (comparison name self.old.reader)) }
-        ensures context { self.new.context ≡ self.old.context }
-    {
-        if self.reader.is_at_end(Nesting::InBrackets) {
-            self.reader.advance();
-            return Ok(SimpleSelector::AttributeExists { name });
-        }
-        let operator = operator(&mut self.reader)?;
-        self.reader.skip_space();
-        let value = self.value()?;
-        self.reader.skip_space();
-        let case_sensitivity = case_sensitivity(&name, &mut self.reader)?;
-        Ok(SimpleSelector::AttributeComparison {
-            name,
-            value,
-            operator,
-            case_sensitivity,
-        })
+/// What stands after the name.
+#[tactic(auto, unfolding(crate::specs::Reading::comparison))]
+fn comparison(
+    alloc: Global,
+    name: CssString,
+    reader: &mut Reader<'_>,
+) -> Result<SimpleSelector, SelectorError>
+    ensures { ReadsUnlessMemory part_of result reader.new (giving trees.Plain (comparison name reader.old)) }
+{
+    if reader.is_at_end(Nesting::InBrackets) {
+        reader.advance();
+        return Ok(SimpleSelector::AttributeExists { name });
     }
+    let operator = operator(reader)?;
+    reader.skip_space();
+    let value = value(alloc, reader)?;
+    reader.skip_space();
+    let case_sensitivity = case_sensitivity(&name, reader)?;
+    Ok(SimpleSelector::AttributeComparison {
+        name,
+        value,
+        operator,
+        case_sensitivity,
+    })
+}
 
-    /// An attribute, after the `[`.
-    #[tactic(auto, unfolding(crate::specs::Reading::attribute, crate::specs::Accepting::judged_part))]
-    pub(crate) fn attribute(&mut self) -> Result<Judged<'a, SimpleSelector>, SelectorError>
-        ensures reads { ReadsUnlessMemory (judgement part_of) result self.new.reader
-            (giving judged_part (attribute self.old.reader)) }
-        ensures context { self.new.context ≡ self.old.context }
-    {
-        self.reader.skip_space();
-        let left = self.reader.rest();
-        let (name, any_namespace) = attribute_name(&mut self.reader)?;
-        let name = name.to_lowercase_text(self.alloc)?;
-        self.reader.skip_space();
-        let part = self.comparison(name)?;
-        Ok(if any_namespace {
-            Judged::Refused(Refusal {
-                cause: SelectorError::NamespacedSelector,
-                left,
-            })
-        } else {
-            Judged::Kept(part)
+/// An attribute, after the `[`.
+#[tactic(auto, unfolding(crate::specs::Reading::attribute, crate::specs::Accepting::judged_part))]
+pub(crate) fn attribute<'a>(
+    alloc: Global,
+    reader: &mut Reader<'a>,
+) -> Result<Judged<'a, SimpleSelector>, SelectorError>
+    ensures { ReadsUnlessMemory (judgement part_of) result reader.new
+        (giving judged_part (attribute reader.old)) }
+{
+    reader.skip_space();
+    let left = reader.rest();
+    let (name, any_namespace) = attribute_name(reader)?;
+    let name = name.to_lowercase_text(alloc)?;
+    reader.skip_space();
+    let part = comparison(alloc, name, reader)?;
+    Ok(if any_namespace {
+        Err(Refusal {
+            cause: SelectorError::NamespacedSelector,
+            left,
         })
-    }
+    } else {
+        Ok(part)
+    })
 }

@@ -4,7 +4,7 @@ ghost use Rattle.std.specs.Prelude.{◌≡◌, Ok, IfOk, OnOk};
 ghost use Rattle.std.specs.Option.{option_map};
 ghost use Rattle.lol_css.specs.Trees as trees;
 ghost use Rattle.lol_css.specs.Rules.{giving};
-ghost use Rattle.lol_css.specs.Reading.{class_name, after_bar, any_namespace, no_namespace, type_part};
+ghost use Rattle.lol_css.specs.Reading.{class_name, after_bar, type_part};
 ghost use Rattle.lol_css.specs.Accepting.{judged_compound};
 ghost use Rattle.lol_css.specs.Judging as judging;
 ghost use Rattle.lol_css.specs.Judging.{is_empty};
@@ -34,11 +34,12 @@ impl Parser<'_> {
         Ok(SimpleSelector::Class(name.to_text(self.alloc)?))
     }
 
-    /// A name or `*`, directly after a bar; nothing where the item ends.
-    #[tactic(auto, unfolding(crate::specs::Reading::after_bar))]
-    fn after_bar(&mut self) -> Result<Option<SimpleSelector>, SelectorError>
-        ensures reads { ReadsUnlessMemory (option_map part_of) result self.new.reader
-            (giving (option_map trees.Plain) (after_bar (nesting_of self.old.context.nesting) self.old.reader)) }
+    /// A name or `*`, directly after a bar, added to what stands before it; nothing where the item ends.
+    #[tactic(auto, unfolding(crate::specs::Reading::after_bar), using(crate::proofs::TreeRows::push_steps))]
+    fn after_bar(&mut self, mut compound: Compound) -> Result<Option<Compound>, SelectorError>
+        ensures reads { ReadsUnlessMemory (option_map compound_of) result self.new.reader
+            (giving (option_map (λ part. trees.With (compound_of compound) part))
+            (giving (option_map trees.Plain) (after_bar (nesting_of self.old.context.nesting) self.old.reader))) }
         ensures context { self.new.context ≡ self.old.context }
     {
         if self.reader.is_at_stop(self.context.nesting) {
@@ -50,43 +51,12 @@ impl Parser<'_> {
             _ => return Err(SelectorError::UnexpectedToken),
         };
         self.reader.advance();
-        Ok(Some(name))
-    }
-
-    /// A compound that begins after `*|`; nothing where the item ends.
-    #[tactic(auto, unfolding(crate::specs::Accepting::judged_compound, crate::specs::Accepting::judged_part))]
-    fn any_namespace(&mut self) -> Result<Option<Compound>, SelectorError>
-        ensures reads { ReadsUnlessMemory (option_map (λ start. Ok (compound_of start))) result self.new.reader
-            (giving (option_map judged_compound)
-            (giving (option_map any_namespace) (after_bar (nesting_of self.old.context.nesting) self.old.reader))) }
-        ensures context { self.new.context ≡ self.old.context }
-    {
-        match self.after_bar()? {
-            Some(name) => Ok(Some(single(self.alloc, name)?)),
-            None => Ok(None),
-        }
-    }
-
-    /// A compound that begins after `|`; nothing where the item ends.
-    #[tactic(auto, unfolding(crate::specs::Accepting::judged_compound), using(crate::proofs::TreeRows::push_steps))]
-    fn no_namespace(&mut self) -> Result<Option<Compound>, SelectorError>
-        ensures reads { ReadsUnlessMemory (option_map (λ start. Ok (compound_of start))) result self.new.reader
-            (giving (option_map judged_compound)
-            (giving (option_map no_namespace) (after_bar (nesting_of self.old.context.nesting) self.old.reader))) }
-        ensures context { self.new.context ≡ self.old.context }
-    {
-        match self.after_bar()? {
-            Some(name) => {
-                let mut compound = single(self.alloc, SimpleSelector::ExplicitNoNamespace)?;
-                compound.parts.push(name)?;
-                Ok(Some(compound))
-            }
-            None => Ok(None),
-        }
+        compound.parts.push(name)?;
+        Ok(Some(compound))
     }
 
     /// A compound that begins with its type part, where one stands; nothing where a bar ends the item.
-    #[tactic(auto, unfolding(crate::specs::Reading::type_part, crate::specs::Accepting::judged_compound))]
+    #[tactic(auto, unfolding(crate::specs::Reading::type_part, crate::specs::Accepting::judged_compound, crate::specs::Accepting::judged_part))]
     pub(crate) fn type_part(&mut self) -> Result<Option<Compound>, SelectorError>
         ensures reads { ReadsUnlessMemory (option_map (λ start. Ok (compound_of start))) result self.new.reader
             (giving (option_map judged_compound) (type_part (nesting_of self.old.context.nesting) self.old.reader)) }
@@ -107,11 +77,14 @@ impl Parser<'_> {
                     return Ok(Some(single(self.alloc, SimpleSelector::ExplicitUniversalType)?));
                 }
                 self.reader.advance();
-                self.any_namespace()
+                self.after_bar(Compound {
+                    parts: Vec::new(self.alloc),
+                })
             }
             Some(Token::Delim('|')) => {
                 self.reader.advance();
-                self.no_namespace()
+                let bar = single(self.alloc, SimpleSelector::ExplicitNoNamespace)?;
+                self.after_bar(bar)
             }
             _ => Ok(Some(Compound {
                 parts: Vec::new(self.alloc),
@@ -139,10 +112,10 @@ pub(crate) fn add_part<'a>(
     ensures { OnOk result (judgement compound_of compound.new
         ≡ judging.with_part (judgement compound_of compound.old) (judgement part_of part.entry)) }
 {
-    if let Judged::Kept(kept) = compound {
+    if let Ok(kept) = compound {
         match part {
-            Judged::Kept(part) => kept.parts.push(part)?,
-            Judged::Refused(refusal) => *compound = Judged::Refused(refusal),
+            Ok(part) => kept.parts.push(part)?,
+            Err(refusal) => *compound = Err(refusal),
         }
     }
     Ok(())
@@ -152,7 +125,7 @@ pub(crate) fn reads_nothing(parts: &Judged<'_, Compound>) -> bool
     ensures { result ≡ is_empty (judgement compound_of parts.now) }
 {
     match parts {
-        Judged::Kept(compound) => compound.parts.as_slice().is_empty(),
-        Judged::Refused(_) => false,
+        Ok(compound) => compound.parts.as_slice().is_empty(),
+        Err(_) => false,
     }
 }

@@ -33,15 +33,9 @@ impl<'a> Parser<'a> {
         }
         let left = self.reader.rest();
         let step = match self.reader.peek() {
-            Some(Token::Delim('>')) => Some(Judged::Kept(Combinator::Child)),
-            Some(Token::Delim('+')) => Some(Judged::Refused(Refusal {
-                cause: SelectorError::UnsupportedCombinator('+'),
-                left,
-            })),
-            Some(Token::Delim('~')) => Some(Judged::Refused(Refusal {
-                cause: SelectorError::UnsupportedCombinator('~'),
-                left,
-            })),
+            Some(Token::Delim('>')) => Some(Ok(Combinator::Child)),
+            Some(Token::Delim('+')) => Some(Err(SelectorError::UnsupportedCombinator('+'))),
+            Some(Token::Delim('~')) => Some(Err(SelectorError::UnsupportedCombinator('~'))),
             _ => None,
         };
         if step.is_some() {
@@ -50,13 +44,11 @@ impl<'a> Parser<'a> {
         } else if !after_space {
             return Err(SelectorError::UnexpectedToken);
         }
-        if self.context.nesting == Nesting::InFunction {
-            return Ok(Some(Judged::Refused(Refusal {
-                cause: SelectorError::UnsupportedPseudoClassOrElement,
-                left,
-            })));
-        }
-        Ok(Some(step.unwrap_or(Judged::Kept(Combinator::Descendant))))
+        let step = match self.context.nesting {
+            Nesting::InFunction => Err(SelectorError::UnsupportedPseudoClassOrElement),
+            _ => step.unwrap_or(Ok(Combinator::Descendant)),
+        };
+        Ok(Some(step.map_err(|cause| Refusal { cause, left })))
     }
 }
 
@@ -65,13 +57,10 @@ impl<'a> Parser<'a> {
 pub(crate) fn alone<'a>(alloc: Global, first: Judged<'a, Compound>) -> Judged<'a, ComplexSelector>
     ensures { judgement item_of result ≡ judging.alone (judgement compound_of first.entry) }
 {
-    match first {
-        Judged::Kept(first) => Judged::Kept(ComplexSelector {
-            first,
-            rest: Vec::new(alloc),
-        }),
-        Judged::Refused(refusal) => Judged::Refused(refusal),
-    }
+    first.map(|first| ComplexSelector {
+        first,
+        rest: Vec::new(alloc),
+    })
 }
 
 /// Adds a compound to an item: the compound is judged first, and then the step.
@@ -85,22 +74,13 @@ pub(crate) fn add_compound<'a>(
         ≡ judging.with_compound (judgement item_of item.old) (step_judgement step.entry)
         (judgement compound_of compound.entry)) }
 {
-    let compound = match compound {
-        Judged::Kept(compound) => compound,
-        Judged::Refused(refusal) => {
-            *item = Judged::Refused(refusal);
-            return Ok(());
+    match (compound, step) {
+        (Ok(compound), Ok(combinator)) => {
+            if let Ok(item) = item {
+                item.rest.push((combinator, compound))?;
+            }
         }
-    };
-    let combinator = match step {
-        Judged::Kept(combinator) => combinator,
-        Judged::Refused(refusal) => {
-            *item = Judged::Refused(refusal);
-            return Ok(());
-        }
-    };
-    if let Judged::Kept(item) = item {
-        item.rest.push((combinator, compound))?;
+        (Err(refusal), _) | (_, Err(refusal)) => *item = Err(refusal),
     }
     Ok(())
 }
@@ -116,10 +96,10 @@ pub(crate) fn add_item<'a>(
     ensures { OnOk result (judgement list_of list.new
         ≡ judging.with_item (judgement list_of list.old) (judgement item_of item.entry)) }
 {
-    if let Judged::Kept(kept) = list {
+    if let Ok(kept) = list {
         match item {
-            Judged::Kept(item) => kept.items.push(item)?,
-            Judged::Refused(refusal) => *list = Judged::Refused(refusal),
+            Ok(item) => kept.items.push(item)?,
+            Err(refusal) => *list = Err(refusal),
         }
     }
     Ok(())

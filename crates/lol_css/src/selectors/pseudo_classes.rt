@@ -38,19 +38,19 @@ pub(crate) fn ident_part<'a>(
 {
     let first = NthChild::new(0, 1);
     if name.is_word("first-child") {
-        return Ok(Judged::Kept(SimpleSelector::Nth {
+        return Ok(Ok(SimpleSelector::Nth {
             of_type: false,
             nth: first,
         }));
     }
     if name.is_word("first-of-type") {
-        return Ok(Judged::Kept(SimpleSelector::Nth {
+        return Ok(Ok(SimpleSelector::Nth {
             of_type: true,
             nth: first,
         }));
     }
     if is_late_word(name) {
-        return Ok(Judged::Refused(Refusal {
+        return Ok(Err(Refusal {
             cause: SelectorError::UnsupportedPseudoClassOrElement,
             left: reader.rest(),
         }));
@@ -70,7 +70,7 @@ pub(crate) fn function_part<'a>(
     if name.is_word("nth-child") {
         reader.advance();
         let nth = an_plus_b(reader)?;
-        return Ok(Judged::Kept(SimpleSelector::Nth {
+        return Ok(Ok(SimpleSelector::Nth {
             of_type: false,
             nth,
         }));
@@ -78,10 +78,10 @@ pub(crate) fn function_part<'a>(
     if name.is_word("nth-of-type") {
         reader.advance();
         let nth = an_plus_b(reader)?;
-        return Ok(Judged::Kept(SimpleSelector::Nth { of_type: true, nth }));
+        return Ok(Ok(SimpleSelector::Nth { of_type: true, nth }));
     }
     if name.is_word("nth-last-child") || name.is_word("nth-last-of-type") {
-        let late = Judged::Refused(Refusal {
+        let late = Err(Refusal {
             cause: SelectorError::UnsupportedPseudoClassOrElement,
             left: reader.rest(),
         });

@@ -51,15 +51,12 @@ fn first_late(
     ensures { option_map numbers result
         ≡ (option_map numbers found or late_place number all (judgement item_of item.now)) }
 {
-    if found.is_some() {
-        return found;
-    }
-    match item {
-        Judged::Kept(_) => None,
-        Judged::Refused(refusal) => Some(RefusedItem {
+    match (found, item) {
+        (None, Err(refusal)) => Some(RefusedItem {
             number,
             token: all.saturating_sub(count_tokens(refusal.left)),
         }),
+        (found, _) => found,
     }
 }
 

@@ -12,6 +12,7 @@ ghost use Rattle.lol_css.specs.TreeViews.{part_of, compound_of, item_of, list_of
 
 use crate::error::SelectorError;
 use crate::selector::{ComplexSelector, Compound, SelectorList, SimpleSelector};
+use crate::selectors::attributes::attribute;
 use crate::selectors::compounds::{add_part, reads_nothing};
 use crate::selectors::items::{add_compound, add_item, alone};
 use crate::selectors::judged::Judged;
@@ -37,15 +38,15 @@ impl<'a> Parser<'a> {
         match self.reader.peek() {
             Some(Token::Hash(name, true)) => {
                 self.reader.advance();
-                Ok(Some(Judged::Kept(SimpleSelector::ID(name.to_text(self.alloc)?))))
+                Ok(Some(Ok(SimpleSelector::ID(name.to_text(self.alloc)?))))
             }
             Some(Token::Delim('.')) => {
                 self.reader.advance();
-                Ok(Some(Judged::Kept(self.class_name()?)))
+                Ok(Some(Ok(self.class_name()?)))
             }
             Some(Token::Delim('[')) => {
                 self.reader.advance();
-                Ok(Some(self.attribute()?))
+                Ok(Some(attribute(self.alloc, &mut self.reader)?))
             }
             Some(Token::Delim(':')) => {
                 self.reader.advance();
@@ -114,8 +115,8 @@ impl<'a> Parser<'a> {
         let list = self.list();
         self.context = outer;
         match list? {
-            Judged::Kept(list) => Ok(Judged::Kept(combination.of(list))),
-            Judged::Refused(refusal) => Ok(Judged::Refused(refusal)),
+            Ok(list) => Ok(Ok(combination.of(list))),
+            Err(refusal) => Ok(Err(refusal)),
         }
     }
 
@@ -127,7 +128,7 @@ impl<'a> Parser<'a> {
             (Ok (compound_of start)) self.old.reader) }
         ensures context { self.new.context ≡ self.old.context }
     {
-        let mut parts = Judged::Kept(start);
+        let mut parts = Ok(start);
         'parts: while let Some(found) = self.part()? {
             add_part(&mut parts, found)?;
         }
@@ -184,7 +185,7 @@ impl<'a> Parser<'a> {
             (list (inner_list self.old.context.depth_left) (nesting_of self.old.context.nesting) self.old.reader)) }
         ensures context { self.new.context ≡ self.old.context }
     {
-        let mut list = Judged::Kept(SelectorList {
+        let mut list = Ok(SelectorList {
             items: Vec::new(self.alloc),
         });
         'items: loop {

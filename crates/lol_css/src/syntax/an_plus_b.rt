@@ -69,10 +69,7 @@ fn bounded_integer(sign: Sign, magnitude: u64) -> Result<i32, SelectorError>
         Sign::Plus => magnitude,
         Sign::Minus => -magnitude,
     };
-    match i32::try_from(number) {
-        Ok(number) => Ok(number),
-        Err(_) => Err(SelectorError::UnexpectedToken),
-    }
+    i32::try_from(number).map_err(|_| SelectorError::UnexpectedToken)
 }
 
 /// The value of a number of these digits: `UnexpectedToken` outside `i32`.
@@ -172,26 +169,12 @@ fn rest_of(name: Name<'_>, reader: &mut Reader<'_>) -> Result<i32, SelectorError
         reader.advance();
         return digits_of_b(Sign::Minus, reader);
     }
-    match digits_after_n(name) {
-        Some(magnitude) => {
-            let number = bounded_integer(Sign::Minus, magnitude)?;
-            reader.advance();
-            Ok(number)
-        }
-        None => Err(SelectorError::UnexpectedToken),
-    }
-}
-
-/// What follows `-` in a name.
-fn after_minus(name: Name<'_>) -> Option<Name<'_>>
-    ensures { MatchOption result (first_passes (is (byte "-")) (points_of name.entry) ≡ false)
-        (λ rest. (first_passes (is (byte "-")) (points_of name.entry) ≡ true)
-        × (points_of rest ≡ drop 1 (points_of name.entry))) }
-{
-    match name.split_first() {
-        Some(('-', rest)) => Some(rest),
-        _ => None,
-    }
+    let Some(magnitude) = digits_after_n(name) else {
+        return Err(SelectorError::UnexpectedToken);
+    };
+    let number = bounded_integer(Sign::Minus, magnitude)?;
+    reader.advance();
+    Ok(number)
 }
 
 /// A and B, of which the next token is this name.
@@ -207,9 +190,9 @@ fn named(name: Name<'_>, reader: &mut Reader<'_>) -> Result<(i32, i32), Selector
         reader.advance();
         return Ok((2, 1));
     }
-    match after_minus(name) {
-        Some(rest) => Ok((-1, rest_of(rest, reader)?)),
-        None => Ok((1, rest_of(name, reader)?)),
+    match name.split_first() {
+        Some(('-', rest)) => Ok((-1, rest_of(rest, reader)?)),
+        _ => Ok((1, rest_of(name, reader)?)),
     }
 }
 
@@ -219,28 +202,12 @@ fn integer(number: Numeral<'_>) -> Result<i32, SelectorError>
     ensures { (tokens : List tokens.Token)
         → ReadsFirst (λ x. x) result tokens (integer (numeral_of number.entry) tokens) }
 {
-    match number.integer {
-        Some(digits) => value(number.sign.unwrap_or(Sign::Plus), digits),
-        None => Err(SelectorError::UnexpectedToken),
-    }
-}
-
-/// A and B, of which the next token is this number with its unit.
-#[tactic(auto, unfolding(crate::specs::AnPlusB::an_plus_b_of_dimension))]
-fn an_plus_b_of_dimension(
-    number: Numeral<'_>,
-    unit: Name<'_>,
-    reader: &mut Reader<'_>,
-) -> Result<(i32, i32), SelectorError>
-    ensures { Reads (λ x. x) result reader.new
-        (an_plus_b_of_dimension (numeral_of number.entry) (points_of unit.entry) reader.old) }
-{
-    let step = integer(number)?;
-    Ok((step, rest_of(unit, reader)?))
+    let digits = number.integer.ok_or(SelectorError::UnexpectedToken)?;
+    value(number.sign.unwrap_or(Sign::Plus), digits)
 }
 
 /// A and B, of which this is the next token.
-#[tactic(auto, unfolding(crate::specs::AnPlusB::an_plus_b_of, crate::specs::Rules::required_token))]
+#[tactic(auto, unfolding(crate::specs::AnPlusB::an_plus_b_of, crate::specs::AnPlusB::an_plus_b_of_dimension, crate::specs::Rules::required_token))]
 fn an_plus_b_of(token: Token<'_>, reader: &mut Reader<'_>) -> Result<(i32, i32), SelectorError>
     ensures { Reads (λ x. x) result reader.new (an_plus_b_of (token_of token.entry) reader.old) }
 {
@@ -251,7 +218,7 @@ fn an_plus_b_of(token: Token<'_>, reader: &mut Reader<'_>) -> Result<(i32, i32),
             reader.advance();
             Ok((0, offset))
         }
-        Token::Dimension(number, unit) => an_plus_b_of_dimension(number, unit, reader),
+        Token::Dimension(number, unit) => Ok((integer(number)?, rest_of(unit, reader)?)),
         Token::Delim('+') => {
             reader.advance();
             match reader.expect(Nesting::InFunction)? {

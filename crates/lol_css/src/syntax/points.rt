@@ -72,20 +72,13 @@ pub(crate) fn is_in_name(c: char) -> bool
 pub(crate) fn begins_escape(text: &[char]) -> bool
     ensures { result ≡ begins_escape text.now }
 {
-    match text {
-        ['\\', '\n', ..] => false,
-        ['\\', ..] => true,
-        _ => false,
-    }
+    matches!(text, ['\\', rest @ ..] if !matches!(rest, ['\n', ..]))
 }
 
 fn begins_name(text: &[char]) -> bool
     ensures { result ≡ begins_name text.now }
 {
-    match text {
-        [c, ..] if is_name_start(*c) => true,
-        _ => begins_escape(text),
-    }
+    matches!(text, [c, ..] if is_name_start(*c)) || begins_escape(text)
 }
 
 pub(crate) fn starts_identifier(text: &[char]) -> bool
@@ -116,10 +109,7 @@ pub(crate) fn starts_number(text: &[char]) -> bool
 pub(crate) fn is_at_digit(text: &[char]) -> bool
     ensures { result ≡ first_passes is_decimal text.now }
 {
-    match text {
-        [c, ..] => c.is_ascii_digit(),
-        [] => false,
-    }
+    matches!(text, [c, ..] if c.is_ascii_digit())
 }
 
 /// The hexadecimal digit here, as its value, and what is left.

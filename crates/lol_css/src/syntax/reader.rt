@@ -65,10 +65,7 @@ impl<'a> Reader<'a> {
     pub(crate) fn count(&self) -> usize
         ensures { result ≡ length self.now }
     {
-        match self.first.token {
-            Some(_) => 1 + count_tokens(self.first.after),
-            None => 0,
-        }
+        count_tokens(self.first.start)
     }
 
     /// The token that comes next, which stays.
@@ -111,10 +108,7 @@ impl<'a> Reader<'a> {
     pub(crate) fn is_at_delim(&self, sign: char) -> bool
         ensures { result ≡ first_passes (is_delim sign) self.now }
     {
-        match self.peek() {
-            Some(Token::Delim(c)) => c == sign,
-            _ => false,
-        }
+        matches!(self.peek(), Some(Token::Delim(c)) if c == sign)
     }
 
     /// Whether an item of a list ends here.

@@ -12,6 +12,7 @@ use crate::syntax::points::{
     starts_number,
 };
 use crate::syntax::texts::{Name, Quoted, after_string};
+use lol_base::AttrSelectorOperator;
 
 /// The sign of a number.
 #[derive(Clone, Copy)]
@@ -20,21 +21,6 @@ pub(crate) enum Sign {
     Plus,
     /// `-`
     Minus,
-}
-
-/// An operator of two signs between an attribute's name and its value.
-#[derive(Clone, Copy)]
-pub(crate) enum MatchOperator {
-    /// `~=`
-    Include,
-    /// `|=`
-    Dash,
-    /// `^=`
-    Prefix,
-    /// `$=`
-    Suffix,
-    /// `*=`
-    Substring,
 }
 
 /// A number as it is written.
@@ -66,7 +52,7 @@ pub(crate) enum Token<'a> {
     Function(Name<'a>),
     Ident(Name<'a>),
     /// `~=` and the like.
-    Match(MatchOperator),
+    Match(AttrSelectorOperator),
     Delim(char),
 }
 
@@ -149,8 +135,7 @@ fn string(text: &[char]) -> Found<'_>
     };
     match after_string(*quote, rest) {
         after @ ['\n', ..] => Some((Some(Token::BadString), after)),
-        [_, after @ ..] => Some((Some(Token::Quoted(quoted)), after)),
-        [] => Some((Some(Token::Quoted(quoted)), &[])),
+        [_, after @ ..] | after @ [] => Some((Some(Token::Quoted(quoted)), after)),
     }
 }
 
@@ -173,11 +158,7 @@ fn hash(text: &[char]) -> Found<'_>
     let ['#', rest @ ..] = text else {
         return None;
     };
-    let begins = match rest {
-        [c, ..] if is_in_name(*c) => true,
-        _ => begins_escape(rest),
-    };
-    if !begins {
+    if !matches!(rest, [c, ..] if is_in_name(*c)) && !begins_escape(rest) {
         return None;
     }
     let name = Name { text: rest };
@@ -302,15 +283,15 @@ fn identifier(text: &[char]) -> Found<'_>
 }
 
 /// The operator that begins with this sign.
-fn match_operator(sign: char) -> Option<MatchOperator>
+fn match_operator(sign: char) -> Option<AttrSelectorOperator>
     ensures { result ≡ match_operator sign }
 {
     match sign {
-        '~' => Some(MatchOperator::Include),
-        '|' => Some(MatchOperator::Dash),
-        '^' => Some(MatchOperator::Prefix),
-        '$' => Some(MatchOperator::Suffix),
-        '*' => Some(MatchOperator::Substring),
+        '~' => Some(AttrSelectorOperator::Includes),
+        '|' => Some(AttrSelectorOperator::DashMatch),
+        '^' => Some(AttrSelectorOperator::Prefix),
+        '$' => Some(AttrSelectorOperator::Suffix),
+        '*' => Some(AttrSelectorOperator::Substring),
         _ => None,
     }
 }

@@ -163,15 +163,15 @@ part-returns-in_err-pseudo-in-Some-Delim-eq58-clause-reads t c =
     let first : c.args.self.now.reader ≡ Delim (byte ":") ∷ drop 1 c.args.self.now.reader = cc c.in-Some-Delim-eq58.ensures in
     rw (p.1, p.2) (part-pseudo-fails (inner_list c.args.self.now.context.depth_left) (nesting_of c.args.self.now.context.nesting) c.args.self.now.reader (drop 1 c.args.self.now.reader) c.in_err-pseudo-in-Some-Delim-eq58.field-0.0 c.pseudo.new.self.reader first (rw c.advance-in-Some-Delim-eq58.ensures at c.in_err-pseudo-in-Some-Delim-eq58.ensures.reads))
 
-pub logical_part-returns-in-Kept-clause-reads : goal.logical_part-returns-in-Kept-clause-reads
-logical_part-returns-in-Kept-clause-reads t c =
+pub logical_part-returns-in-Ok-clause-reads : goal.logical_part-returns-in-Ok-clause-reads
+logical_part-returns-in-Ok-clause-reads t c =
     rw (c.of.ensures, inner_list-opens c.args.self.now.context.depth_left c.args.self.now.reader c.if-self-eq0.false)
-    (logical-read c.args.combination (list (inner_list (c.args.self.now.context.depth_left - 1)) InFunction c.args.self.now.reader) (Ok (list_of c.in-Kept.list)) c.list-list.new.self.reader (rw c.in-Kept.is at c.in_ok-list.ensures.reads))
+    (logical-read c.args.combination (list (inner_list (c.args.self.now.context.depth_left - 1)) InFunction c.args.self.now.reader) (Ok (list_of c.in-Ok.list)) c.list-list.new.self.reader (rw c.in-Ok.is at c.in_ok-list.ensures.reads))
 
-pub logical_part-returns-in-Refused-clause-reads : goal.logical_part-returns-in-Refused-clause-reads
-logical_part-returns-in-Refused-clause-reads t c =
+pub logical_part-returns-in-Err-clause-reads : goal.logical_part-returns-in-Err-clause-reads
+logical_part-returns-in-Err-clause-reads t c =
     rw (inner_list-opens c.args.self.now.context.depth_left c.args.self.now.reader c.if-self-eq0.false)
-    (logical-read c.args.combination (list (inner_list (c.args.self.now.context.depth_left - 1)) InFunction c.args.self.now.reader) (Err (refusal_of c.in-Refused.refusal)) c.list-list.new.self.reader (rw c.in-Refused.is at c.in_ok-list.ensures.reads))
+    (logical-read c.args.combination (list (inner_list (c.args.self.now.context.depth_left - 1)) InFunction c.args.self.now.reader) (Err (refusal_of c.in-Err.refusal)) c.list-list.new.self.reader (rw c.in-Err.is at c.in_ok-list.ensures.reads))
 
 pub part-returns-in_err-class_name-in-Some-Delim-eq46-clause-reads : goal.part-returns-in_err-class_name-in-Some-Delim-eq46-clause-reads
 part-returns-in_err-class_name-in-Some-Delim-eq46-clause-reads t c =
