@@ -35,13 +35,10 @@ impl fmt::Display for ErrorMessage<'_> {
         let (before, after) = parted(self.text, note.offset);
         let before = before.rsplit_once('\n').map_or(before, |(_, last)| last);
         let after = after.split_once('\n').map_or(after, |(first, _)| first);
-        writeln!(f, "{}", self.cause)?;
-        write!(f, "    ")?;
-        for c in before.chars() {
-            f.write_char(shown(c))?;
-        }
-        for c in after.chars() {
-            f.write_char(shown(c))?;
+        write!(f, "{}\n    ", self.cause)?;
+        for c in before.chars().chain(after.chars()) {
+            // Of the control characters the tab alone is shown.
+            f.write_char(if c.is_control() && c != '\t' { ' ' } else { c })?;
         }
         write!(f, "\n    ")?;
         for c in before.chars() {
@@ -53,11 +50,6 @@ impl fmt::Display for ErrorMessage<'_> {
         }
         write!(f, "{}", note.says)
     }
-}
-
-/// A character as it is shown: of the control characters the tab alone stays.
-fn shown(c: char) -> char {
-    if c.is_control() && c != '\t' { ' ' } else { c }
 }
 
 /// What stands before a byte offset, and what after it.
@@ -84,29 +76,27 @@ impl<'a> Note<'a> {
                 says: " can't begin a name: a digit is written as an escape there, 1 as `\\31 `",
             };
         }
-        let (part, says) = match cause {
+        let part = match cause {
+            SelectorError::UnsupportedCombinator(_) => parted(after, 1).0,
+            _ => "",
+        };
+        let says = match cause {
             SelectorError::UnsupportedPseudoClassOrElement if before.ends_with(':') => {
                 return Note::of_pseudo(text, before, after);
             }
-            SelectorError::UnsupportedPseudoClassOrElement => (
-                "",
-                " a step inside `:not`, `:is` or `:where`: complex selectors aren't supported there",
-            ),
-            SelectorError::UnsupportedCombinator(_) => (
-                parted(after, 1).0,
-                " steps to a sibling, which isn't supported: only ancestors are known",
-            ),
-            SelectorError::NamespacedSelector => (
-                "",
-                " no prefix is declared: write the name alone, or `*|` before an element's",
-            ),
-            SelectorError::UnexpectedTokenInAttribute if before.trim_ascii_end().ends_with('=') => {
-                (
-                    "",
-                    " a value that is no name, as one that begins with a digit, is quoted",
-                )
+            SelectorError::UnsupportedPseudoClassOrElement => {
+                " a step inside `:not`, `:is` or `:where`: complex selectors aren't supported there"
             }
-            _ => ("", ""),
+            SelectorError::UnsupportedCombinator(_) => {
+                " steps to a sibling, which isn't supported: only ancestors are known"
+            }
+            SelectorError::NamespacedSelector => {
+                " no prefix is declared: write the name alone, or `*|` before an element's"
+            }
+            SelectorError::UnexpectedTokenInAttribute if before.trim_ascii_end().ends_with('=') => {
+                " a value that is no name, as one that begins with a digit, is quoted"
+            }
+            _ => "",
         };
         Note { offset, part, says }
     }
@@ -145,11 +135,7 @@ static LATER: [&str; 8] = [
 fn digit_after_sign(after: &str) -> Option<&str> {
     let name = after.strip_prefix('.').or(after.strip_prefix('#'))?;
     let digit = parted(name, 1).0;
-    if digit.as_bytes().first()?.is_ascii_digit() {
-        Some(digit)
-    } else {
-        None
-    }
+    digit.as_bytes().first()?.is_ascii_digit().then_some(digit)
 }
 
 /// The name that a text begins with, as it is written.

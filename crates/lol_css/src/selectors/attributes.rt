@@ -35,7 +35,6 @@ fn name_after_bar<'a>(
     Ok((name, any_namespace))
 }
 
-/// The bar after a `*`.
 #[tactic(auto, unfolding(crate::specs::Rules::required_token))]
 fn bar(reader: &mut Reader<'_>) -> Result<(), SelectorError>
     ensures { Reads (λ _. byte "|") result reader.new

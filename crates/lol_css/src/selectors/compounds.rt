@@ -93,7 +93,6 @@ impl Parser<'_> {
     }
 }
 
-/// A compound of one part.
 #[tactic(auto, using(crate::proofs::TreeRows::row_starts))]
 fn single(alloc: Global, part: SimpleSelector) -> Result<Compound, AllocError>
     ensures { IfOk result (λ compound. compound_of compound ≡ trees.With trees.Nothing (part_of part)) }
@@ -103,7 +102,6 @@ fn single(alloc: Global, part: SimpleSelector) -> Result<Compound, AllocError>
     Ok(Compound { parts })
 }
 
-/// Adds a part to a compound.
 #[tactic(auto, using(crate::proofs::TreeRows::push_steps))]
 pub(crate) fn add_part<'a>(
     compound: &mut Judged<'a, Compound>,

@@ -52,7 +52,6 @@ impl<'a> Parser<'a> {
     }
 }
 
-/// An item of one compound.
 #[tactic(auto, using(crate::proofs::TreeRows::row_starts))]
 pub(crate) fn alone<'a>(alloc: Global, first: Judged<'a, Compound>) -> Judged<'a, ComplexSelector>
     ensures { judgement item_of result ≡ judging.alone (judgement compound_of first.entry) }
@@ -85,7 +84,6 @@ pub(crate) fn add_compound<'a>(
     Ok(())
 }
 
-/// Adds an item to a list.
 #[tactic(auto, using(crate::proofs::TreeRows::push_steps))]
 // Called, its arguments would make each step of a recursion take more of the stack.
 #[inline(always)]

@@ -18,7 +18,6 @@ pub(crate) enum LogicalCombination {
 }
 
 impl LogicalCombination {
-    /// The combination of this name, where there is one.
     pub(crate) fn from_name(name: Name<'_>) -> Option<LogicalCombination>
         ensures { result ≡ combination_named (points_of name.entry) }
     {
@@ -33,7 +32,6 @@ impl LogicalCombination {
         }
     }
 
-    /// The part that stands for this combination of a list.
     pub(crate) fn of(self, list: SelectorList) -> SimpleSelector
         ensures { part_of result ≡ combination_part self (list_of list) }
     {

@@ -1,6 +1,6 @@
 //! An+B (CSS Syntax 3, section 6), after the parenthesis of `:nth-child(` and its kin.
 
-ghost use Rattle.std.specs.Prelude.{◌≡◌, ◌≤◌, ◌+◌, ◌-◌, ◌*◌, List, min, take, drop, codes, if◌then◌else◌, Some, None, true, false, MatchOption, IfSome};
+ghost use Rattle.std.specs.Prelude.{◌≡◌, ◌≤◌, ◌+◌, ◌-◌, ◌*◌, List, min, drop, if◌then◌else◌, Some, None, IfSome};
 ghost use Rattle.std.specs.List.{list_all};
 ghost use Rattle.std.specs.Str.{byte};
 ghost use Rattle.lol_css.specs.Points.{decimal, is_decimal, first_passes, is};
@@ -131,28 +131,18 @@ fn after_n(reader: &mut Reader<'_>) -> Result<i32, SelectorError>
     }
 }
 
-/// What follows `n-` in a name.
-fn after_n_minus(name: Name<'_>) -> Option<Name<'_>>
-    ensures { MatchOption result (says (codes "n-") (take 2 (points_of name.entry)) ≡ false)
-        (λ rest. (says (codes "n-") (take 2 (points_of name.entry)) ≡ true)
-        × (points_of rest ≡ drop 2 (points_of name.entry))) }
-{
-    let (n, rest) = name.split_first()?;
-    let (minus, rest) = rest.split_first()?;
-    if n.to_ascii_lowercase() == 'n' && minus == '-' {
-        Some(rest)
-    } else {
-        None
-    }
-}
-
 /// The digits after `n-` in a name, as their number or `TOO_LARGE`.
 fn digits_after_n(name: Name<'_>) -> Option<u64>
     ensures value { result ≡ (if is_n_and_digits (points_of name.entry)
         then Some (min (decimal (drop 2 (points_of name.entry))) TOO_LARGE) else None) }
     ensures small { IfSome result (λ n. n ≤ TOO_LARGE) }
 {
-    name_magnitude(after_n_minus(name)?)
+    let (n, rest) = name.split_first()?;
+    let (minus, rest) = rest.split_first()?;
+    if n.to_ascii_lowercase() != 'n' || minus != '-' {
+        return None;
+    }
+    name_magnitude(rest)
 }
 
 /// B, of which the name that ends the next token holds the beginning: `n`, `n-`, or `n-` with digits.

@@ -105,7 +105,6 @@ pub(crate) fn starts_number(text: &[char]) -> bool
     is_at_digit(digits)
 }
 
-/// Whether a decimal digit stands here.
 pub(crate) fn is_at_digit(text: &[char]) -> bool
     ensures { result ≡ first_passes is_decimal text.now }
 {

@@ -61,7 +61,6 @@ impl<'a> Reader<'a> {
         self.first.start
     }
 
-    /// How many tokens are left.
     pub(crate) fn count(&self) -> usize
         ensures { result ≡ length self.now }
     {
@@ -75,14 +74,12 @@ impl<'a> Reader<'a> {
         self.first.token
     }
 
-    /// Passes the next token.
     pub(crate) fn advance(&mut self)
         ensures { self.new ≡ drop 1 self.old }
     {
         self.first = first_token(self.first.after);
     }
 
-    /// Skips white space.
     #[tactic(auto, using(crate::proofs::Spaces::space_steps))]
     pub(crate) fn skip_space(&mut self)
         ensures { self.new ≡ skip_space self.old }
@@ -104,7 +101,6 @@ impl<'a> Reader<'a> {
         }
     }
 
-    /// Whether this sign comes next.
     pub(crate) fn is_at_delim(&self, sign: char) -> bool
         ensures { result ≡ first_passes (is_delim sign) self.now }
     {

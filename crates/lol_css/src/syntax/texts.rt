@@ -46,7 +46,6 @@ impl<'a> Name<'a> {
         rest.split_first().is_none()
     }
 
-    /// A copy of the name.
     pub(crate) fn to_text(self, alloc: Global) -> Result<CssString, AllocError>
         ensures { IfOk result (λ s. s ≡ utf8 (points_of self.entry)) }
     {
@@ -134,7 +133,6 @@ pub(crate) fn after_string(quote: char, text: &[char]) -> &[char]
 }
 
 impl Quoted<'_> {
-    /// A copy of the quoted text.
     #[tactic(auto, unfolding(crate::specs::Views::quoted_points), using(crate::proofs::Streams::string_steps))]
     pub(crate) fn to_text(self, alloc: Global) -> Result<CssString, AllocError>
         ensures { IfOk result (λ s. s ≡ utf8 (quoted_points self.entry)) }

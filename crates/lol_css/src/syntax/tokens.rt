@@ -26,7 +26,6 @@ pub(crate) enum Sign {
 /// A number as it is written.
 #[derive(Clone, Copy)]
 pub(crate) struct Numeral<'a> {
-    /// The sign, if one is written.
     pub sign: Option<Sign>,
     /// The digits, if there are neither fraction nor exponent.
     pub integer: Option<&'a [char]>,
@@ -139,7 +138,6 @@ fn string(text: &[char]) -> Found<'_>
     }
 }
 
-/// What stands after the longest name here.
 #[tactic(auto, using(crate::proofs::Loops::name_steps))]
 fn after_name(text: &[char]) -> &[char]
     ensures { result.now ≡ (name text.now).1 }
@@ -178,7 +176,6 @@ fn decimal_digit(text: &[char]) -> Option<(char, &[char])>
     }
 }
 
-/// What stands after the decimal digits here.
 #[tactic(auto, using(crate::proofs::Loops::decimal_steps))]
 fn after_digits(text: &[char]) -> &[char]
     ensures value { result.now ≡ (many (first_that is_decimal) text.now).1 }
@@ -212,7 +209,6 @@ fn after_exponent(text: &[char]) -> &[char]
     }
 }
 
-/// The sign here, and what is left.
 fn split_sign(text: &[char]) -> (Option<Sign>, &[char])
     ensures sign { result.0 ≡ leading_sign text.now }
     ensures rest { result.1.now ≡ past is_sign text.now }
@@ -224,7 +220,6 @@ fn split_sign(text: &[char]) -> (Option<Sign>, &[char])
     }
 }
 
-/// The number here, and what is left.
 #[tactic(auto, unfolding(crate::specs::Tokens::numeral), using(crate::proofs::Loops::digit_steps))]
 fn split_number(text: &[char]) -> (Numeral<'_>, &[char])
     ensures { (numeral_of result.0, result.1.now) ≡ numeral text.now }
@@ -282,7 +277,6 @@ fn identifier(text: &[char]) -> Found<'_>
     }
 }
 
-/// The operator that begins with this sign.
 fn match_operator(sign: char) -> Option<AttrSelectorOperator>
     ensures { result ≡ match_operator sign }
 {
@@ -383,7 +377,6 @@ pub(crate) fn first_token(text: &[char]) -> FirstToken<'_>
     }
 }
 
-/// How many tokens a text has.
 pub(crate) fn count_tokens(text: &[char]) -> usize
     ensures value { result ≡ length (tokens_of text.now) }
     ensures small { result ≤ length text.now }
