@@ -8,7 +8,7 @@ ghost use Rattle.lol_css.specs.declared.error.SelectorError.TheVariants.{Memory}
 
 use crate::error::{ErrorLocation, SelectorError};
 use crate::selector::SelectorList;
-use crate::selectors::parser::Parser;
+use crate::selectors::parser::{Context, Parser};
 use crate::selectors::refusals::refused_item;
 use crate::syntax::places::{point_offset, points_before};
 use crate::syntax::points::preprocessed;
@@ -28,8 +28,8 @@ impl SelectorsParser {
         ensures err { IfErr result (λ cause. (cause ≡ Memory) ⊎ (accept text.now ≡ Err cause)) }
     {
         let points = preprocessed(alloc, text)?;
-        let mut parser = Parser::outermost(alloc, points.as_slice());
-        match parser.list()? {
+        let mut parser = Parser::new(alloc, points.as_slice());
+        match parser.list(Context::OUTERMOST)? {
             Ok(list) => Ok(list),
             Err(refusal) => Err(refusal.cause),
         }

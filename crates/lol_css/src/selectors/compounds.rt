@@ -15,34 +15,37 @@ use crate::error::SelectorError;
 use crate::selector::{Compound, SimpleSelector};
 use crate::selectors::judged::Judged;
 use crate::selectors::parser::Parser;
+use crate::syntax::reader::Nesting;
 use crate::syntax::tokens::Token;
 use std::alloc::{AllocError, Global};
 
 impl Parser<'_> {
     #[tactic(auto, unfolding(crate::specs::Reading::class_name))]
-    pub(crate) fn class_name(&mut self) -> Result<SimpleSelector, SelectorError>
-        ensures reads { ReadsUnlessMemory part_of result self.new.reader
-            (giving trees.Plain (class_name (nesting_of self.old.context.nesting) self.old.reader)) }
-        ensures context { self.new.context ≡ self.old.context }
+    pub(crate) fn class_name(&mut self, nesting: Nesting) -> Result<SimpleSelector, SelectorError>
+        ensures { ReadsUnlessMemory part_of result self.new.reader
+            (giving trees.Plain (class_name (nesting_of nesting) self.old.reader)) }
     {
-        if self.reader.is_at_stop(self.context.nesting) {
+        if self.reader.is_at_stop(nesting) {
             return Err(SelectorError::UnexpectedEnd);
         }
         let name = self
             .reader
-            .expect_name(self.context.nesting, SelectorError::InvalidClassName)?;
+            .expect_name(nesting, SelectorError::InvalidClassName)?;
         Ok(SimpleSelector::Class(name.to_text(self.alloc)?))
     }
 
     /// A name or `*`, directly after a bar, added to what stands before it; nothing where the item ends.
     #[tactic(auto, unfolding(crate::specs::Reading::after_bar), using(crate::proofs::TreeRows::push_steps))]
-    fn after_bar(&mut self, mut compound: Compound) -> Result<Option<Compound>, SelectorError>
-        ensures reads { ReadsUnlessMemory (option_map compound_of) result self.new.reader
+    fn after_bar(
+        &mut self,
+        nesting: Nesting,
+        mut compound: Compound,
+    ) -> Result<Option<Compound>, SelectorError>
+        ensures { ReadsUnlessMemory (option_map compound_of) result self.new.reader
             (giving (option_map (λ part. trees.With (compound_of compound) part))
-            (giving (option_map trees.Plain) (after_bar (nesting_of self.old.context.nesting) self.old.reader))) }
-        ensures context { self.new.context ≡ self.old.context }
+            (giving (option_map trees.Plain) (after_bar (nesting_of nesting) self.old.reader))) }
     {
-        if self.reader.is_at_stop(self.context.nesting) {
+        if self.reader.is_at_stop(nesting) {
             return Ok(None);
         }
         let name = match self.reader.peek() {
@@ -57,10 +60,9 @@ impl Parser<'_> {
 
     /// A compound that begins with its type part, where one stands; nothing where a bar ends the item.
     #[tactic(auto, unfolding(crate::specs::Reading::type_part, crate::specs::Accepting::judged_compound, crate::specs::Accepting::judged_part))]
-    pub(crate) fn type_part(&mut self) -> Result<Option<Compound>, SelectorError>
-        ensures reads { ReadsUnlessMemory (option_map (λ start. Ok (compound_of start))) result self.new.reader
-            (giving (option_map judged_compound) (type_part (nesting_of self.old.context.nesting) self.old.reader)) }
-        ensures context { self.new.context ≡ self.old.context }
+    pub(crate) fn type_part(&mut self, nesting: Nesting) -> Result<Option<Compound>, SelectorError>
+        ensures { ReadsUnlessMemory (option_map (λ start. Ok (compound_of start))) result self.new.reader
+            (giving (option_map judged_compound) (type_part (nesting_of nesting) self.old.reader)) }
     {
         match self.reader.peek() {
             Some(Token::Ident(name)) => {
@@ -77,14 +79,17 @@ impl Parser<'_> {
                     return Ok(Some(single(self.alloc, SimpleSelector::ExplicitUniversalType)?));
                 }
                 self.reader.advance();
-                self.after_bar(Compound {
-                    parts: Vec::new(self.alloc),
-                })
+                self.after_bar(
+                    nesting,
+                    Compound {
+                        parts: Vec::new(self.alloc),
+                    },
+                )
             }
             Some(Token::Delim('|')) => {
                 self.reader.advance();
                 let bar = single(self.alloc, SimpleSelector::ExplicitNoNamespace)?;
-                self.after_bar(bar)
+                self.after_bar(nesting, bar)
             }
             _ => Ok(Some(Compound {
                 parts: Vec::new(self.alloc),

@@ -20,15 +20,17 @@ use std::alloc::{AllocError, Global};
 impl<'a> Parser<'a> {
     /// The step after a compound; nothing where the item ends.
     #[tactic(auto, unfolding(crate::specs::Reading::next_step, crate::specs::Reading::step))]
-    pub(crate) fn next_step(&mut self) -> Result<Option<Judged<'a, Combinator>>, SelectorError>
-        ensures reads { Reads (option_map step_judgement) result self.new.reader
-            (giving (option_map (judged_step (is_inside self.old.context.nesting)))
-            (next_step (nesting_of self.old.context.nesting) self.old.reader)) }
-        ensures context { self.new.context ≡ self.old.context }
+    pub(crate) fn next_step(
+        &mut self,
+        nesting: Nesting,
+    ) -> Result<Option<Judged<'a, Combinator>>, SelectorError>
+        ensures { Reads (option_map step_judgement) result self.new.reader
+            (giving (option_map (judged_step (is_inside nesting)))
+            (next_step (nesting_of nesting) self.old.reader)) }
     {
         let after_space = matches!(self.reader.peek(), Some(Token::Space));
         self.reader.skip_space();
-        if self.reader.is_at_stop(self.context.nesting) {
+        if self.reader.is_at_stop(nesting) {
             return Ok(None);
         }
         let left = self.reader.rest();
@@ -44,7 +46,7 @@ impl<'a> Parser<'a> {
         } else if !after_space {
             return Err(SelectorError::UnexpectedToken);
         }
-        let step = match self.context.nesting {
+        let step = match nesting {
             Nesting::InFunction => Err(SelectorError::UnsupportedPseudoClassOrElement),
             _ => step.unwrap_or(Ok(Combinator::Descendant)),
         };

@@ -2,13 +2,9 @@
 
 ghost use Rattle.std.specs.Prelude.{◌≡◌};
 ghost use Rattle.lol_css.specs.Tokens.{tokens_of};
-ghost use Rattle.lol_css.specs.declared.syntax.reader.Nesting.TheVariants.{Outside};
 
 use crate::syntax::reader::{Nesting, Reader};
 use std::alloc::Global;
-
-/// How many of `:not`, `:is` and `:where` may be open at once.
-const MAX_NESTING: u32 = 128;
 
 /// What is open where a rule reads.
 #[derive(Clone, Copy)]
@@ -19,27 +15,28 @@ pub(crate) struct Context {
     pub depth_left: u32,
 }
 
-/// The tokens that are left, what is open where they are read, and the allocator of what is kept.
+impl Context {
+    /// What is open where the outermost list is read.
+    pub(crate) const OUTERMOST: Context = Context {
+        nesting: Nesting::Outside,
+        depth_left: 128,
+    };
+}
+
+/// The tokens that are left, and the allocator of what is kept.
 #[derive(Drop)]
 pub(crate) struct Parser<'a> {
     pub reader: Reader<'a>,
-    pub context: Context,
     pub alloc: Global,
 }
 
 impl<'a> Parser<'a> {
-    /// A parser of the outermost list of a text that is preprocessed.
-    pub(crate) fn outermost(alloc: Global, points: &'a [char]) -> Parser<'a>
-        ensures reader { result.reader ≡ tokens_of points.now }
-        ensures nesting { result.context.nesting ≡ Outside }
-        ensures depth { result.context.depth_left ≡ 128 }
+    /// A parser of a text that is preprocessed.
+    pub(crate) fn new(alloc: Global, points: &'a [char]) -> Parser<'a>
+        ensures { result.reader ≡ tokens_of points.now }
     {
         Parser {
             reader: Reader::new(points),
-            context: Context {
-                nesting: Nesting::Outside,
-                depth_left: MAX_NESTING,
-            },
             alloc,
         }
     }

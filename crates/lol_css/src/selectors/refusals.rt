@@ -11,7 +11,7 @@ ghost use Rattle.lol_css.specs.TreeViews.{item_of};
 use crate::error::SelectorError;
 use crate::selector::ComplexSelector;
 use crate::selectors::judged::Judged;
-use crate::selectors::parser::Parser;
+use crate::selectors::parser::{Context, Parser};
 use crate::syntax::reader::Nesting;
 use crate::syntax::tokens::count_tokens;
 use std::alloc::{AllocError, Global};
@@ -27,13 +27,15 @@ pub(crate) struct RefusedItem {
 
 impl<'a> Parser<'a> {
     /// An item; nothing where it is refused as it is read, which leaves the reader at the first token that is refused.
-    fn item_if_read(&mut self) -> Result<Option<Judged<'a, ComplexSelector>>, AllocError>
+    fn item_if_read(
+        &mut self,
+        context: Context,
+    ) -> Result<Option<Judged<'a, ComplexSelector>>, AllocError>
         ensures read { IfOk result (λ found. option_map (judgement item_of) found
-            ≡ read_of (judged_item_in self.old.context self.old.reader)) }
-        ensures left { IfOk result (λ _. self.new.reader ≡ left_of (judged_item_in self.old.context self.old.reader)) }
-        ensures context { self.new.context ≡ self.old.context }
+            ≡ read_of (judged_item_in context self.old.reader)) }
+        ensures left { IfOk result (λ _. self.new.reader ≡ left_of (judged_item_in context self.old.reader)) }
     {
-        match self.item() {
+        match self.item(context) {
             Ok(item) => Ok(Some(item)),
             Err(SelectorError::Memory) => Err(AllocError),
             Err(_) => Ok(None),
@@ -67,12 +69,12 @@ pub(crate) fn refused_item(
 ) -> Result<Option<RefusedItem>, AllocError>
     ensures { IfOk result (λ found. option_map numbers found ≡ refused_token (tokens_of points.now)) }
 {
-    let mut parser = Parser::outermost(alloc, points);
+    let mut parser = Parser::new(alloc, points);
     let all = parser.reader.count();
     let mut number = 0;
     let mut late = None;
     'items: loop {
-        let Some(item) = parser.item_if_read()? else {
+        let Some(item) = parser.item_if_read(Context::OUTERMOST)? else {
             let token = all.saturating_sub(parser.reader.count());
             return Ok(Some(RefusedItem { number, token }));
         };

@@ -29,11 +29,13 @@ impl<'a> Parser<'a> {
     /// A part of a compound; nothing where the next token begins none.
     #[tactic(auto, unfolding(crate::specs::Reading::part, crate::specs::Accepting::judged_part))]
     #[cycle(rules)]
-    fn part(&mut self) -> Result<Option<Judged<'a, SimpleSelector>>, SelectorError>
-        ensures reads { ReadsUnlessMemory (option_map (judgement part_of)) result self.new.reader
+    fn part(
+        &mut self,
+        context: Context,
+    ) -> Result<Option<Judged<'a, SimpleSelector>>, SelectorError>
+        ensures { ReadsUnlessMemory (option_map (judgement part_of)) result self.new.reader
             (giving (option_map judged_part)
-            (part (inner_list self.old.context.depth_left) (nesting_of self.old.context.nesting) self.old.reader)) }
-        ensures context { self.new.context ≡ self.old.context }
+            (part (inner_list context.depth_left) (nesting_of context.nesting) self.old.reader)) }
     {
         match self.reader.peek() {
             Some(Token::Hash(name, true)) => {
@@ -42,7 +44,7 @@ impl<'a> Parser<'a> {
             }
             Some(Token::Delim('.')) => {
                 self.reader.advance();
-                Ok(Some(Ok(self.class_name()?)))
+                Ok(Some(Ok(self.class_name(context.nesting)?)))
             }
             Some(Token::Delim('[')) => {
                 self.reader.advance();
@@ -50,7 +52,7 @@ impl<'a> Parser<'a> {
             }
             Some(Token::Delim(':')) => {
                 self.reader.advance();
-                Ok(Some(self.pseudo()?))
+                Ok(Some(self.pseudo(context)?))
             }
             _ => Ok(None),
         }
@@ -59,13 +61,12 @@ impl<'a> Parser<'a> {
     /// A pseudo-class, after its colon.
     #[tactic(auto, unfolding(crate::specs::Reading::pseudo))]
     #[cycle(rules)]
-    fn pseudo(&mut self) -> Result<Judged<'a, SimpleSelector>, SelectorError>
-        ensures reads { ReadsUnlessMemory (judgement part_of) result self.new.reader
+    fn pseudo(&mut self, context: Context) -> Result<Judged<'a, SimpleSelector>, SelectorError>
+        ensures { ReadsUnlessMemory (judgement part_of) result self.new.reader
             (giving judged_part
-            (pseudo (inner_list self.old.context.depth_left) (nesting_of self.old.context.nesting) self.old.reader)) }
-        ensures context { self.new.context ≡ self.old.context }
+            (pseudo (inner_list context.depth_left) (nesting_of context.nesting) self.old.reader)) }
     {
-        if self.reader.is_at_stop(self.context.nesting) {
+        if self.reader.is_at_stop(context.nesting) {
             return Err(SelectorError::UnexpectedEnd);
         }
         match self.reader.peek() {
@@ -77,13 +78,13 @@ impl<'a> Parser<'a> {
             Some(Token::Function(name)) => match LogicalCombination::from_name(name) {
                 Some(combination) => {
                     self.reader.advance();
-                    self.logical_part(combination)
+                    self.logical_part(context, combination)
                 }
                 None => function_part(name, &mut self.reader),
             },
             Some(Token::Delim(':')) => {
                 self.reader.advance();
-                if self.reader.is_at_stop(self.context.nesting) {
+                if self.reader.is_at_stop(context.nesting) {
                     return Err(SelectorError::UnexpectedEnd);
                 }
                 Err(SelectorError::UnsupportedPseudoClassOrElement)
@@ -97,24 +98,21 @@ impl<'a> Parser<'a> {
     #[cycle(rules)]
     fn logical_part(
         &mut self,
+        context: Context,
         combination: LogicalCombination,
     ) -> Result<Judged<'a, SimpleSelector>, SelectorError>
-        ensures reads { ReadsUnlessMemory (judgement part_of) result self.new.reader
+        ensures { ReadsUnlessMemory (judgement part_of) result self.new.reader
             (giving judged_part
-            (giving (drafts.Logical combination) (inner_list self.old.context.depth_left self.old.reader))) }
-        ensures context { self.new.context ≡ self.old.context }
+            (giving (drafts.Logical combination) (inner_list context.depth_left self.old.reader))) }
     {
-        if self.context.depth_left == 0 {
+        if context.depth_left == 0 {
             return Err(SelectorError::UnsupportedSyntax);
         }
-        let outer = self.context;
-        self.context = Context {
+        let inner = Context {
             nesting: Nesting::InFunction,
-            depth_left: outer.depth_left - 1,
+            depth_left: context.depth_left - 1,
         };
-        let list = self.list();
-        self.context = outer;
-        match list? {
+        match self.list(inner)? {
             Ok(list) => Ok(Ok(combination.of(list))),
             Err(refusal) => Ok(Err(refusal)),
         }
@@ -122,14 +120,17 @@ impl<'a> Parser<'a> {
 
     /// The parts of a compound after those that it begins with.
     #[cycle(rules)]
-    fn more_parts(&mut self, start: Compound) -> Result<Judged<'a, Compound>, SelectorError>
-        ensures reads { ReadsUnlessMemory (judgement compound_of) result self.new.reader
-            (judged_parts (inner_list self.old.context.depth_left) (nesting_of self.old.context.nesting)
+    fn more_parts(
+        &mut self,
+        context: Context,
+        start: Compound,
+    ) -> Result<Judged<'a, Compound>, SelectorError>
+        ensures { ReadsUnlessMemory (judgement compound_of) result self.new.reader
+            (judged_parts (inner_list context.depth_left) (nesting_of context.nesting)
             (Ok (compound_of start)) self.old.reader) }
-        ensures context { self.new.context ≡ self.old.context }
     {
         let mut parts = Ok(start);
-        'parts: while let Some(found) = self.part()? {
+        'parts: while let Some(found) = self.part(context)? {
             add_part(&mut parts, found)?;
         }
         Ok(parts)
@@ -137,16 +138,19 @@ impl<'a> Parser<'a> {
 
     /// A compound; one that reads nothing is refused with the cause `empty`.
     #[cycle(rules)]
-    fn compound(&mut self, empty: SelectorError) -> Result<Judged<'a, Compound>, SelectorError>
-        ensures reads { ReadsUnlessMemory (judgement compound_of) result self.new.reader
-            (giving judged_compound (compound (inner_list self.old.context.depth_left)
-            (nesting_of self.old.context.nesting) empty self.old.reader)) }
-        ensures context { self.new.context ≡ self.old.context }
+    fn compound(
+        &mut self,
+        context: Context,
+        empty: SelectorError,
+    ) -> Result<Judged<'a, Compound>, SelectorError>
+        ensures { ReadsUnlessMemory (judgement compound_of) result self.new.reader
+            (giving judged_compound (compound (inner_list context.depth_left)
+            (nesting_of context.nesting) empty self.old.reader)) }
     {
-        let Some(start) = self.type_part()? else {
+        let Some(start) = self.type_part(context.nesting)? else {
             return Err(empty);
         };
-        let parts = self.more_parts(start)?;
+        let parts = self.more_parts(context, start)?;
         if reads_nothing(&parts) {
             return Err(empty);
         }
@@ -157,20 +161,22 @@ impl<'a> Parser<'a> {
     #[cycle(rules)]
     // Called, it would make each step of a recursion take more of the stack.
     #[inline(always)]
-    pub(crate) fn item(&mut self) -> Result<Judged<'a, ComplexSelector>, SelectorError>
-        ensures reads { ReadsUnlessMemory (judgement item_of) result self.new.reader
-            (judged_item_in self.old.context self.old.reader) }
-        ensures context { self.new.context ≡ self.old.context }
+    pub(crate) fn item(
+        &mut self,
+        context: Context,
+    ) -> Result<Judged<'a, ComplexSelector>, SelectorError>
+        ensures { ReadsUnlessMemory (judgement item_of) result self.new.reader
+            (judged_item_in context self.old.reader) }
     {
         self.reader.skip_space();
-        let first = self.compound(SelectorError::EmptySelector)?;
+        let first = self.compound(context, SelectorError::EmptySelector)?;
         let mut item = alone(self.alloc, first);
         let mut left = MAX_FURTHER;
-        'steps: while let Some(step) = self.next_step()? {
+        'steps: while let Some(step) = self.next_step(context.nesting)? {
             if left == 0 {
                 return Err(SelectorError::UnsupportedSyntax);
             }
-            let next = self.compound(SelectorError::DanglingCombinator)?;
+            let next = self.compound(context, SelectorError::DanglingCombinator)?;
             add_compound(&mut item, step, next)?;
             left -= 1;
         }
@@ -179,19 +185,21 @@ impl<'a> Parser<'a> {
 
     /// A list of items separated by commas, and its end.
     #[cycle(rules)]
-    pub(crate) fn list(&mut self) -> Result<Judged<'a, SelectorList>, SelectorError>
-        ensures reads { ReadsUnlessMemory (judgement list_of) result self.new.reader
-            (giving (judged (is_inside self.old.context.nesting))
-            (list (inner_list self.old.context.depth_left) (nesting_of self.old.context.nesting) self.old.reader)) }
-        ensures context { self.new.context ≡ self.old.context }
+    pub(crate) fn list(
+        &mut self,
+        context: Context,
+    ) -> Result<Judged<'a, SelectorList>, SelectorError>
+        ensures { ReadsUnlessMemory (judgement list_of) result self.new.reader
+            (giving (judged (is_inside context.nesting))
+            (list (inner_list context.depth_left) (nesting_of context.nesting) self.old.reader)) }
     {
         let mut list = Ok(SelectorList {
             items: Vec::new(self.alloc),
         });
         'items: loop {
-            let item = self.item()?;
+            let item = self.item(context)?;
             add_item(&mut list, item)?;
-            let at_end = self.reader.is_at_end(self.context.nesting);
+            let at_end = self.reader.is_at_end(context.nesting);
             self.reader.advance();
             if at_end {
                 return Ok(list);

@@ -3,9 +3,8 @@
 ghost use Rattle.std.specs.Prelude.{◌≡◌, ◌≤◌, ◌+◌, ◌-◌, ◌*◌, List, min, drop, if◌then◌else◌, Some, None, IfSome};
 ghost use Rattle.std.specs.List.{list_all};
 ghost use Rattle.std.specs.Str.{byte};
-ghost use Rattle.lol_css.specs.Points.{decimal, is_decimal, first_passes, is};
+ghost use Rattle.lol_css.specs.Points.{decimal, is_decimal};
 ghost use Rattle.lol_css.specs.Tokens as tokens;
-ghost use Rattle.lol_css.specs.Rules.{says};
 ghost use Rattle.lol_css.specs.AnPlusB.{integer, an_plus_b, an_plus_b_of, rest_of, an_plus_b_of_dimension, after_n, digits_of_b, bounded_integer, with_sign, is_n_and_digits};
 ghost use Rattle.lol_css.specs.Views.{Reads, ReadsFirst, numeral_of, token_of, points_of};
 

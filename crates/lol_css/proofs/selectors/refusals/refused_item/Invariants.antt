@@ -3,7 +3,6 @@ use Rattle.std.specs.Option.{option_map}
 use Rattle.lol_css.specs.Tokens.{tokens_of}
 use Rattle.lol_css.specs.Locating.{refused_token}
 use Rattle.lol_css.specs.Views.{numbers}
-use Rattle.lol_css.specs.declared.syntax.reader.Nesting.TheVariants.{Outside}
 use Rattle.lol_css.proofs.LocatingLemmas.{told}
 use Rattle.lol_css.proofs.selectors.refusals.refused_item.Given as goal
 
@@ -11,8 +10,6 @@ use Rattle.lol_css.proofs.selectors.refusals.refused_item.Given as goal
 abbrev pub invariant-items : goal.invariant-items
 invariant-items l = record {
   tells : told (tokens_of l.fn.points) l.number (option_map numbers l.late) l.parser.reader ≡ refused_token (tokens_of l.fn.points);
-  nesting : l.parser.context.nesting ≡ Outside;
-  depth : l.parser.context.depth_left ≡ 128;
   few : l.number + length l.parser.reader ≤ l.all;
 }
 

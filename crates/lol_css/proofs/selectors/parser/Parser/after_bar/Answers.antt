@@ -9,12 +9,12 @@ use Rattle.lol_css.proofs.TreeRows.{compound-push}
 use Rattle.lol_css.proofs.selectors.parser.Parser.after_bar.Goals as goal
 use Rattle.lol_css.proofs.selectors.parser.Parser.after_bar.Goals.{in-Some-Ident+in_ok-to_text-in-Some-Ident, in-Some-Delim-eq42}
 
-pub returns-in_default-clause-reads : goal.returns-in_default-clause-reads
+pub returns-in_default : goal.returns-in_default
 unfolding after_bar
-returns-in_default-clause-reads c = search rules
+returns-in_default c = search rules
 
-pub returns-clause-reads : goal.returns-clause-reads
+pub returns : goal.returns
 unfolding after_bar
-returns-clause-reads c =
-    let read : giving (option_map trees.Plain) (after_bar (nesting_of c.args.self.now.context.nesting) c.args.self.now.reader) ≡ Ok (Some (part_of c.match-peek-2.name), c.advance.new.self) = elim c.match-peek-2.branch [ in-Some-Ident+in_ok-to_text-in-Some-Ident w ↦ search rules | in-Some-Delim-eq42 w ↦ search rules ] in
+returns c =
+    let read : giving (option_map trees.Plain) (after_bar (nesting_of c.args.nesting) c.args.self.now.reader) ≡ Ok (Some (part_of c.match-peek-2.name), c.advance.new.self) = elim c.match-peek-2.branch [ in-Some-Ident+in_ok-to_text-in-Some-Ident w ↦ search rules | in-Some-Delim-eq42 w ↦ search rules ] in
     rw (read, compound-push c.args.compound c.push.new.self c.match-peek-2.name c.in_ok-push.ensures.items) refl
