@@ -4,11 +4,11 @@ use Rattle.std.specs.Option.{option_map}
 use Rattle.std.specs.Str.{byte}
 use Rattle.lol_css.specs.Points.{first_passes, is, decimal}
 use Rattle.lol_css.specs.Tokens.{Token, Numeral, sign_of, Space, Quoted, BadString, Hash, Number, Dimension, Percentage, Cdc, Function, Ident, Match, Delim}
-use Rattle.lol_css.specs.Trees.{Simple, LocalName, AnyName, Id, Class, Exists, Compares, Nth}
+use Rattle.lol_css.specs.Trees.{Simple, LocalName, AnyName, NoNamespace, Id, Class, Exists, Compares, Nth}
 use Rattle.lol_css.specs.Drafts.{By, DraftPart, Plain, LatePseudoClass, LateNamespace, Logical, DraftCompound, Nothing, With, DraftItem, First, Then, DraftItems, NoItems, And}
 use Rattle.lol_css.specs.Rules.{Refusal, Read, refused, ◌>>=◌, giving, is_delim, is_space, skip_space, Nesting, InFunction, InBrackets, closes, at_end, at_stop, required_token, block_end, says, lowercase, ident_of}
 use Rattle.lol_css.specs.AnPlusB.{with_sign, integer_value, unsigned_integer, in_i32, bounded_integer, digits_of_b, after_n, is_n_and_digits, rest_of, with_step, integer, an_plus_b_of_dimension, an_plus_b_of, an_plus_b}
-use Rattle.lol_css.specs.Reading.{utf8, combination_named, name_after_bar, bar_of, attribute_name, operator_of, written_value, flag_of, default_case_sensitivity, case_sensitivity, comparison, attribute, class_name, is_one_of, function_part, late_words, ident_part, pseudo, some, part, parts_at_most, more_parts, after_bar, any_namespace, no_namespace, type_part, is_nothing, compound, step_of, step, next_step, further, item, items_at_most, list, inner_list}
+use Rattle.lol_css.specs.Reading.{utf8, combination_named, name_after_bar, bar_of, attribute_name, operator_of, written_value, flag_of, default_case_sensitivity, case_sensitivity, comparison, attribute, class_name, is_one_of, function_part, late_words, ident_part, pseudo, some, part, parts_at_most, more_parts, after_bar, type_part, is_nothing, compound, step_of, step, next_step, further, item, items_at_most, list, inner_list}
 use Rattle.lol_css.specs.declared.syntax.tokens.Sign.{Sign}
 use Rattle.lol_css.specs.declared.syntax.tokens.Sign.TheVariants.{Minus}
 use Rattle.lol_css.specs.declared.error.SelectorError.{SelectorError}
@@ -427,14 +427,14 @@ type_part-leaves nesting (Ident name ∷ tokens) =
     if_leaves (first_passes (is_delim (byte "|")) tokens) (refused errors.NamespacedSelector tokens) (Ok (Some (With Nothing (Plain (LocalName (utf8 name)))), tokens)) (length (Ident name ∷ tokens)) (err_leaves (length (Ident name ∷ tokens))) (ok_leaves (Some (With Nothing (Plain (LocalName (utf8 name))))) tokens (length (Ident name ∷ tokens)) (omega arith))
 type_part-leaves nesting (Delim c ∷ tokens) =
     let n = length (Delim c ∷ tokens) in
-    let any = giving (option_map any_namespace) (after_bar nesting (drop 1 tokens)) in
-    let none = giving (option_map no_namespace) (after_bar nesting tokens) in
+    let any = giving (option_map (λ (name : Simple). With Nothing (Plain name))) (after_bar nesting (drop 1 tokens)) in
+    let none = giving (option_map (λ (name : Simple). With (With Nothing (Plain NoNamespace)) (Plain name))) (after_bar nesting tokens) in
     if_leaves (eqb c (byte "*")) (cond (first_passes (is_delim (byte "|")) tokens) any (Ok (Some (With Nothing (Plain AnyName)), tokens))) (cond (eqb c (byte "|")) none (Ok (Some Nothing, Delim c ∷ tokens))) n
     (if_leaves (first_passes (is_delim (byte "|")) tokens) any (Ok (Some (With Nothing (Plain AnyName)), tokens)) n
-    (giving_leaves (option_map any_namespace) (after_bar nesting (drop 1 tokens)) n (weaker (after_bar nesting (drop 1 tokens)) (length (drop 1 tokens)) n (after_bar-leaves nesting (drop 1 tokens)) (omega (arith, length-drop 1 tokens))))
+    (giving_leaves (option_map (λ (name : Simple). With Nothing (Plain name))) (after_bar nesting (drop 1 tokens)) n (weaker (after_bar nesting (drop 1 tokens)) (length (drop 1 tokens)) n (after_bar-leaves nesting (drop 1 tokens)) (omega (arith, length-drop 1 tokens))))
     (ok_leaves (Some (With Nothing (Plain AnyName))) tokens n (omega arith)))
     (if_leaves (eqb c (byte "|")) none (Ok (Some Nothing, Delim c ∷ tokens)) n
-    (giving_leaves (option_map no_namespace) (after_bar nesting tokens) n (longer (after_bar nesting tokens) (Delim c) tokens (after_bar-leaves nesting tokens)))
+    (giving_leaves (option_map (λ (name : Simple). With (With Nothing (Plain NoNamespace)) (Plain name))) (after_bar nesting tokens) n (longer (after_bar nesting tokens) (Delim c) tokens (after_bar-leaves nesting tokens)))
     (same_leaves (Some Nothing) (Delim c ∷ tokens)))
 type_part-leaves nesting (Space ∷ tokens) = same_leaves (Some Nothing) (Space ∷ tokens)
 type_part-leaves nesting (Quoted text ∷ tokens) = same_leaves (Some Nothing) (Quoted text ∷ tokens)

@@ -183,13 +183,6 @@ after_bar nesting (token ∷ tokens) =
       | other ↦ refused UnexpectedToken (other ∷ tokens)
     ]
 
--- `*|` and `|` before what stands after the bar
-abbrev pub any_namespace : Simple → DraftCompound
-any_namespace name = With Nothing (Plain name)
-
-abbrev pub no_namespace : Simple → DraftCompound
-no_namespace name = With (With Nothing (Plain NoNamespace)) (Plain name)
-
 -- the type part, where one stands
 unfoldable pub type_part : Nesting → List Token → Read (Option DraftCompound)
 type_part nesting [] = Ok (Some Nothing, [])
@@ -197,9 +190,9 @@ type_part nesting (Ident name ∷ tokens) =
     if first_passes (is_delim (byte "|")) tokens then refused NamespacedSelector tokens else Ok (Some (With Nothing (Plain (LocalName (utf8 name)))), tokens)
 type_part nesting (Delim c ∷ tokens) =
     if c == byte "*" then
-    (if first_passes (is_delim (byte "|")) tokens then giving (option_map any_namespace) (after_bar nesting (drop 1 tokens))
+    (if first_passes (is_delim (byte "|")) tokens then giving (option_map (λ name. With Nothing (Plain name))) (after_bar nesting (drop 1 tokens))
     else Ok (Some (With Nothing (Plain AnyName)), tokens))
-    else (if c == byte "|" then giving (option_map no_namespace) (after_bar nesting tokens)
+    else (if c == byte "|" then giving (option_map (λ name. With (With Nothing (Plain NoNamespace)) (Plain name))) (after_bar nesting tokens)
     else Ok (Some Nothing, Delim c ∷ tokens))
 type_part nesting (token ∷ tokens) = Ok (Some Nothing, token ∷ tokens)
 

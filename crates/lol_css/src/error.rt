@@ -83,6 +83,9 @@ impl<T: Drop> From<AllocFailed<T>> for SelectorError {
     }
 }
 
+/// What a rule of the grammar reads, or why it refuses.
+pub(crate) type Read<T> = Result<T, SelectorError>;
+
 /// Where a text is refused.
 #[derive(Debug, Clone, Copy, PartialEq, Eq)]
 pub struct ErrorLocation {

@@ -12,7 +12,14 @@ use crate::selectors::parser::{Context, Parser};
 use crate::selectors::refusals::refused_item;
 use crate::syntax::places::{point_offset, points_before};
 use crate::syntax::points::preprocessed;
+use crate::syntax::reader::Nesting;
 use std::alloc::{AllocError, Global};
+
+/// What is open where the outermost list is read.
+pub(crate) const OUTERMOST: Context = Context {
+    nesting: Nesting::Outside,
+    depth_left: 128,
+};
 
 /// The parser of selectors, as lol_html's `selectors_vm::SelectorsParser`.
 pub struct SelectorsParser;
@@ -29,7 +36,7 @@ impl SelectorsParser {
     {
         let points = preprocessed(alloc, text)?;
         let mut parser = Parser::new(alloc, points.as_slice());
-        match parser.list(Context::OUTERMOST)? {
+        match parser.list(OUTERMOST)? {
             Ok(list) => Ok(list),
             Err(refusal) => Err(refusal.cause),
         }

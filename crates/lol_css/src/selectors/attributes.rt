@@ -6,13 +6,13 @@ ghost use Rattle.std.specs.Str.{bytes_eq, byte};
 ghost use Rattle.lol_css.specs.CaselessAttributes.{caseless_attributes};
 ghost use Rattle.lol_css.specs.Trees as trees;
 ghost use Rattle.lol_css.specs.Rules.{required_token, giving, InBrackets};
-ghost use Rattle.lol_css.specs.Reading.{name_after_bar, bar_of, attribute_name, operator_of, written_value, flag_of, flag_named, default_case_sensitivity, case_sensitivity, comparison, attribute, utf8};
+ghost use Rattle.lol_css.specs.Reading.{name_after_bar, bar_of, attribute_name, operator_of, written_value, flag_of, default_case_sensitivity, case_sensitivity, comparison, attribute, utf8};
 ghost use Rattle.lol_css.specs.Accepting.{judged_part};
 ghost use Rattle.lol_css.specs.declared.error.SelectorError.TheVariants.{UnexpectedToken, UnexpectedTokenInAttribute};
 ghost use Rattle.lol_css.specs.Views.{Reads, ReadsUnlessMemory, points_of, judgement};
 ghost use Rattle.lol_css.specs.TreeViews.{part_of};
 
-use crate::error::SelectorError;
+use crate::error::{Read, SelectorError};
 use crate::selector::{CssString, SimpleSelector};
 use crate::selectors::judged::{Judged, Refusal};
 use crate::syntax::reader::{Nesting, Reader};
@@ -22,10 +22,7 @@ use lol_base::{AttrSelectorOperator, ParsedCaseSensitivity};
 use std::alloc::Global;
 
 /// The name after a bar, and whether `*` stands before the bar.
-fn name_after_bar<'a>(
-    any_namespace: bool,
-    reader: &mut Reader<'a>,
-) -> Result<(Name<'a>, bool), SelectorError>
+fn name_after_bar<'a>(any_namespace: bool, reader: &mut Reader<'a>) -> Read<(Name<'a>, bool)>
     ensures { Reads (λ x. (points_of x.0, x.1)) result reader.new (name_after_bar any_namespace reader.old) }
 {
     let name = reader.expect_name(
@@ -36,7 +33,7 @@ fn name_after_bar<'a>(
 }
 
 #[tactic(auto, unfolding(crate::specs::Rules::required_token))]
-fn bar(reader: &mut Reader<'_>) -> Result<(), SelectorError>
+fn bar(reader: &mut Reader<'_>) -> Read<()>
     ensures { Reads (λ _. byte "|") result reader.new
         (required_token InBrackets bar_of UnexpectedTokenInAttribute reader.old) }
 {
@@ -51,7 +48,7 @@ fn bar(reader: &mut Reader<'_>) -> Result<(), SelectorError>
 
 /// The name, and whether `*|` stands before it.
 #[tactic(auto, unfolding(crate::specs::Reading::attribute_name, crate::specs::Rules::required_token))]
-fn attribute_name<'a>(reader: &mut Reader<'a>) -> Result<(Name<'a>, bool), SelectorError>
+fn attribute_name<'a>(reader: &mut Reader<'a>) -> Read<(Name<'a>, bool)>
     ensures { Reads (λ x. (points_of x.0, x.1)) result reader.new (attribute_name reader.old) }
 {
     match reader.expect(Nesting::InBrackets)? {
@@ -76,7 +73,7 @@ fn attribute_name<'a>(reader: &mut Reader<'a>) -> Result<(Name<'a>, bool), Selec
 }
 
 #[tactic(auto, unfolding(crate::specs::Rules::required_token))]
-fn operator(reader: &mut Reader<'_>) -> Result<AttrSelectorOperator, SelectorError>
+fn operator(reader: &mut Reader<'_>) -> Read<AttrSelectorOperator>
     ensures { Reads (λ x. x) result reader.new
         (required_token InBrackets operator_of UnexpectedTokenInAttribute reader.old) }
 {
@@ -89,27 +86,15 @@ fn operator(reader: &mut Reader<'_>) -> Result<AttrSelectorOperator, SelectorErr
     Ok(operator)
 }
 
-fn flag_named(name: Name<'_>) -> Option<ParsedCaseSensitivity>
-    ensures { result ≡ flag_named (points_of name.entry) }
-{
-    if name.is_word("i") {
-        Some(ParsedCaseSensitivity::AsciiCaseInsensitive)
-    } else if name.is_word("s") {
-        Some(ParsedCaseSensitivity::ExplicitCaseSensitive)
-    } else {
-        None
-    }
-}
-
 #[tactic(auto, unfolding(crate::specs::Rules::required_token))]
-fn flag(reader: &mut Reader<'_>) -> Result<ParsedCaseSensitivity, SelectorError>
+fn flag(reader: &mut Reader<'_>) -> Read<ParsedCaseSensitivity>
     ensures { Reads (λ x. x) result reader.new (required_token InBrackets flag_of UnexpectedToken reader.old) }
 {
-    let found = match reader.expect(Nesting::InBrackets)? {
-        Token::Ident(name) => flag_named(name),
-        _ => None,
+    let flag = match reader.expect(Nesting::InBrackets)? {
+        Token::Ident(name) if name.is_word("i") => ParsedCaseSensitivity::AsciiCaseInsensitive,
+        Token::Ident(name) if name.is_word("s") => ParsedCaseSensitivity::ExplicitCaseSensitive,
+        _ => return Err(SelectorError::UnexpectedToken),
     };
-    let flag = found.ok_or(SelectorError::UnexpectedToken)?;
     reader.advance();
     Ok(flag)
 }
@@ -189,10 +174,7 @@ fn default_case_sensitivity(name: &CssString) -> ParsedCaseSensitivity
 
 /// The flag, and the end.
 #[tactic(auto, unfolding(crate::specs::Reading::case_sensitivity))]
-fn case_sensitivity(
-    name: &CssString,
-    reader: &mut Reader<'_>,
-) -> Result<ParsedCaseSensitivity, SelectorError>
+fn case_sensitivity(name: &CssString, reader: &mut Reader<'_>) -> Read<ParsedCaseSensitivity>
     ensures { Reads (λ x. x) result reader.new (case_sensitivity name.now reader.old) }
 {
     if reader.is_at_end(Nesting::InBrackets) {
@@ -206,7 +188,7 @@ fn case_sensitivity(
 
 /// The value that is compared with, a name or a quoted text.
 #[tactic(auto, unfolding(crate::specs::Rules::required_token))]
-fn value(alloc: Global, reader: &mut Reader<'_>) -> Result<CssString, SelectorError>
+fn value(alloc: Global, reader: &mut Reader<'_>) -> Read<CssString>
     ensures { ReadsUnlessMemory (λ s. s) result reader.new
         (giving utf8 (required_token InBrackets written_value UnexpectedTokenInAttribute reader.old)) }
 {
@@ -221,11 +203,7 @@ fn value(alloc: Global, reader: &mut Reader<'_>) -> Result<CssString, SelectorEr
 
 /// What stands after the name.
 #[tactic(auto, unfolding(crate::specs::Reading::comparison))]
-fn comparison(
-    alloc: Global,
-    name: CssString,
-    reader: &mut Reader<'_>,
-) -> Result<SimpleSelector, SelectorError>
+fn comparison(alloc: Global, name: CssString, reader: &mut Reader<'_>) -> Read<SimpleSelector>
     ensures { ReadsUnlessMemory part_of result reader.new (giving trees.Plain (comparison name reader.old)) }
 {
     if reader.is_at_end(Nesting::InBrackets) {
@@ -250,7 +228,7 @@ fn comparison(
 pub(crate) fn attribute<'a>(
     alloc: Global,
     reader: &mut Reader<'a>,
-) -> Result<Judged<'a, SimpleSelector>, SelectorError>
+) -> Read<Judged<'a, SimpleSelector>>
     ensures { ReadsUnlessMemory (judgement part_of) result reader.new
         (giving judged_part (attribute reader.old)) }
 {

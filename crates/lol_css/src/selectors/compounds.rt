@@ -11,7 +11,7 @@ ghost use Rattle.lol_css.specs.Judging.{is_empty};
 ghost use Rattle.lol_css.specs.Views.{ReadsUnlessMemory, nesting_of, judgement};
 ghost use Rattle.lol_css.specs.TreeViews.{part_of, compound_of};
 
-use crate::error::SelectorError;
+use crate::error::{Read, SelectorError};
 use crate::selector::{Compound, SimpleSelector};
 use crate::selectors::judged::Judged;
 use crate::selectors::parser::Parser;
@@ -21,7 +21,7 @@ use std::alloc::{AllocError, Global};
 
 impl Parser<'_> {
     #[tactic(auto, unfolding(crate::specs::Reading::class_name))]
-    pub(crate) fn class_name(&mut self, nesting: Nesting) -> Result<SimpleSelector, SelectorError>
+    pub(crate) fn class_name(&mut self, nesting: Nesting) -> Read<SimpleSelector>
         ensures { ReadsUnlessMemory part_of result self.new.reader
             (giving trees.Plain (class_name (nesting_of nesting) self.old.reader)) }
     {
@@ -36,11 +36,7 @@ impl Parser<'_> {
 
     /// A name or `*`, directly after a bar, added to what stands before it; nothing where the item ends.
     #[tactic(auto, unfolding(crate::specs::Reading::after_bar), using(crate::proofs::TreeRows::push_steps))]
-    fn after_bar(
-        &mut self,
-        nesting: Nesting,
-        mut compound: Compound,
-    ) -> Result<Option<Compound>, SelectorError>
+    fn after_bar(&mut self, nesting: Nesting, mut compound: Compound) -> Read<Option<Compound>>
         ensures { ReadsUnlessMemory (option_map compound_of) result self.new.reader
             (giving (option_map (λ part. trees.With (compound_of compound) part))
             (giving (option_map trees.Plain) (after_bar (nesting_of nesting) self.old.reader))) }
@@ -60,7 +56,7 @@ impl Parser<'_> {
 
     /// A compound that begins with its type part, where one stands; nothing where a bar ends the item.
     #[tactic(auto, unfolding(crate::specs::Reading::type_part, crate::specs::Accepting::judged_compound, crate::specs::Accepting::judged_part))]
-    pub(crate) fn type_part(&mut self, nesting: Nesting) -> Result<Option<Compound>, SelectorError>
+    pub(crate) fn type_part(&mut self, nesting: Nesting) -> Read<Option<Compound>>
         ensures { ReadsUnlessMemory (option_map (λ start. Ok (compound_of start))) result self.new.reader
             (giving (option_map judged_compound) (type_part (nesting_of nesting) self.old.reader)) }
     {

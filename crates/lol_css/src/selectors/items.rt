@@ -9,7 +9,7 @@ ghost use Rattle.lol_css.specs.Judging as judging;
 ghost use Rattle.lol_css.specs.Views.{Reads, nesting_of, is_inside, judgement, step_judgement};
 ghost use Rattle.lol_css.specs.TreeViews.{compound_of, item_of, list_of};
 
-use crate::error::SelectorError;
+use crate::error::{Read, SelectorError};
 use crate::selector::{Combinator, ComplexSelector, Compound, SelectorList};
 use crate::selectors::judged::{Judged, Refusal};
 use crate::selectors::parser::Parser;
@@ -20,10 +20,7 @@ use std::alloc::{AllocError, Global};
 impl<'a> Parser<'a> {
     /// The step after a compound; nothing where the item ends.
     #[tactic(auto, unfolding(crate::specs::Reading::next_step, crate::specs::Reading::step))]
-    pub(crate) fn next_step(
-        &mut self,
-        nesting: Nesting,
-    ) -> Result<Option<Judged<'a, Combinator>>, SelectorError>
+    pub(crate) fn next_step(&mut self, nesting: Nesting) -> Read<Option<Judged<'a, Combinator>>>
         ensures { Reads (option_map step_judgement) result self.new.reader
             (giving (option_map (judged_step (is_inside nesting)))
             (next_step (nesting_of nesting) self.old.reader)) }

@@ -15,14 +15,6 @@ pub(crate) struct Context {
     pub depth_left: u32,
 }
 
-impl Context {
-    /// What is open where the outermost list is read.
-    pub(crate) const OUTERMOST: Context = Context {
-        nesting: Nesting::Outside,
-        depth_left: 128,
-    };
-}
-
 /// The tokens that are left, and the allocator of what is kept.
 #[derive(Drop)]
 pub(crate) struct Parser<'a> {

@@ -7,7 +7,7 @@ ghost use Rattle.lol_css.specs.Accepting.{judged_part};
 ghost use Rattle.lol_css.specs.Views.{Reads, ReadsFirst, points_of, judgement};
 ghost use Rattle.lol_css.specs.TreeViews.{part_of};
 
-use crate::error::SelectorError;
+use crate::error::{Read, SelectorError};
 use crate::selector::SimpleSelector;
 use crate::selectors::judged::{Judged, Refusal};
 use crate::syntax::an_plus_b::an_plus_b;
@@ -32,22 +32,19 @@ fn is_late_word(name: Name<'_>) -> bool
 pub(crate) fn ident_part<'a>(
     name: Name<'a>,
     reader: &Reader<'a>,
-) -> Result<Judged<'a, SimpleSelector>, SelectorError>
+) -> Read<Judged<'a, SimpleSelector>>
     ensures { ReadsFirst (judgement part_of) result reader.now
         (giving judged_part (ident_part (points_of name.entry) reader.now)) }
 {
-    let first = NthChild::new(0, 1);
+    let nth = NthChild::new(0, 1);
     if name.is_word("first-child") {
         return Ok(Ok(SimpleSelector::Nth {
             of_type: false,
-            nth: first,
+            nth,
         }));
     }
     if name.is_word("first-of-type") {
-        return Ok(Ok(SimpleSelector::Nth {
-            of_type: true,
-            nth: first,
-        }));
+        return Ok(Ok(SimpleSelector::Nth { of_type: true, nth }));
     }
     if is_late_word(name) {
         return Ok(Err(Refusal {
@@ -63,7 +60,7 @@ pub(crate) fn ident_part<'a>(
 pub(crate) fn function_part<'a>(
     name: Name<'a>,
     reader: &mut Reader<'a>,
-) -> Result<Judged<'a, SimpleSelector>, SelectorError>
+) -> Read<Judged<'a, SimpleSelector>>
     ensures { Reads (judgement part_of) result reader.new
         (giving judged_part (function_part (points_of name.entry) reader.old)) }
 {

@@ -9,6 +9,7 @@ ghost use Rattle.lol_css.specs.Views.{judgement, judged_item_in, read_of, left_o
 ghost use Rattle.lol_css.specs.TreeViews.{item_of};
 
 use crate::error::SelectorError;
+use crate::parser::OUTERMOST;
 use crate::selector::ComplexSelector;
 use crate::selectors::judged::Judged;
 use crate::selectors::parser::{Context, Parser};
@@ -74,7 +75,7 @@ pub(crate) fn refused_item(
     let mut number = 0;
     let mut late = None;
     'items: loop {
-        let Some(item) = parser.item_if_read(Context::OUTERMOST)? else {
+        let Some(item) = parser.item_if_read(OUTERMOST)? else {
             let token = all.saturating_sub(parser.reader.count());
             return Ok(Some(RefusedItem { number, token }));
         };

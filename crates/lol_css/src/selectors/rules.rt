@@ -10,7 +10,7 @@ ghost use Rattle.lol_css.specs.Judging.{judged_parts};
 ghost use Rattle.lol_css.specs.Views.{ReadsUnlessMemory, nesting_of, is_inside, judgement, judged_item_in};
 ghost use Rattle.lol_css.specs.TreeViews.{part_of, compound_of, item_of, list_of};
 
-use crate::error::SelectorError;
+use crate::error::{Read, SelectorError};
 use crate::selector::{ComplexSelector, Compound, SelectorList, SimpleSelector};
 use crate::selectors::attributes::attribute;
 use crate::selectors::compounds::{add_part, reads_nothing};
@@ -29,10 +29,7 @@ impl<'a> Parser<'a> {
     /// A part of a compound; nothing where the next token begins none.
     #[tactic(auto, unfolding(crate::specs::Reading::part, crate::specs::Accepting::judged_part))]
     #[cycle(rules)]
-    fn part(
-        &mut self,
-        context: Context,
-    ) -> Result<Option<Judged<'a, SimpleSelector>>, SelectorError>
+    fn part(&mut self, context: Context) -> Read<Option<Judged<'a, SimpleSelector>>>
         ensures { ReadsUnlessMemory (option_map (judgement part_of)) result self.new.reader
             (giving (option_map judged_part)
             (part (inner_list context.depth_left) (nesting_of context.nesting) self.old.reader)) }
@@ -61,7 +58,7 @@ impl<'a> Parser<'a> {
     /// A pseudo-class, after its colon.
     #[tactic(auto, unfolding(crate::specs::Reading::pseudo))]
     #[cycle(rules)]
-    fn pseudo(&mut self, context: Context) -> Result<Judged<'a, SimpleSelector>, SelectorError>
+    fn pseudo(&mut self, context: Context) -> Read<Judged<'a, SimpleSelector>>
         ensures { ReadsUnlessMemory (judgement part_of) result self.new.reader
             (giving judged_part
             (pseudo (inner_list context.depth_left) (nesting_of context.nesting) self.old.reader)) }
@@ -100,7 +97,7 @@ impl<'a> Parser<'a> {
         &mut self,
         context: Context,
         combination: LogicalCombination,
-    ) -> Result<Judged<'a, SimpleSelector>, SelectorError>
+    ) -> Read<Judged<'a, SimpleSelector>>
         ensures { ReadsUnlessMemory (judgement part_of) result self.new.reader
             (giving judged_part
             (giving (drafts.Logical combination) (inner_list context.depth_left self.old.reader))) }
@@ -120,11 +117,7 @@ impl<'a> Parser<'a> {
 
     /// The parts of a compound after those that it begins with.
     #[cycle(rules)]
-    fn more_parts(
-        &mut self,
-        context: Context,
-        start: Compound,
-    ) -> Result<Judged<'a, Compound>, SelectorError>
+    fn more_parts(&mut self, context: Context, start: Compound) -> Read<Judged<'a, Compound>>
         ensures { ReadsUnlessMemory (judgement compound_of) result self.new.reader
             (judged_parts (inner_list context.depth_left) (nesting_of context.nesting)
             (Ok (compound_of start)) self.old.reader) }
@@ -138,11 +131,7 @@ impl<'a> Parser<'a> {
 
     /// A compound; one that reads nothing is refused with the cause `empty`.
     #[cycle(rules)]
-    fn compound(
-        &mut self,
-        context: Context,
-        empty: SelectorError,
-    ) -> Result<Judged<'a, Compound>, SelectorError>
+    fn compound(&mut self, context: Context, empty: SelectorError) -> Read<Judged<'a, Compound>>
         ensures { ReadsUnlessMemory (judgement compound_of) result self.new.reader
             (giving judged_compound (compound (inner_list context.depth_left)
             (nesting_of context.nesting) empty self.old.reader)) }
@@ -161,10 +150,7 @@ impl<'a> Parser<'a> {
     #[cycle(rules)]
     // Called, it would make each step of a recursion take more of the stack.
     #[inline(always)]
-    pub(crate) fn item(
-        &mut self,
-        context: Context,
-    ) -> Result<Judged<'a, ComplexSelector>, SelectorError>
+    pub(crate) fn item(&mut self, context: Context) -> Read<Judged<'a, ComplexSelector>>
         ensures { ReadsUnlessMemory (judgement item_of) result self.new.reader
             (judged_item_in context self.old.reader) }
     {
@@ -185,10 +171,7 @@ impl<'a> Parser<'a> {
 
     /// A list of items separated by commas, and its end.
     #[cycle(rules)]
-    pub(crate) fn list(
-        &mut self,
-        context: Context,
-    ) -> Result<Judged<'a, SelectorList>, SelectorError>
+    pub(crate) fn list(&mut self, context: Context) -> Read<Judged<'a, SelectorList>>
         ensures { ReadsUnlessMemory (judgement list_of) result self.new.reader
             (giving (judged (is_inside context.nesting))
             (list (inner_list context.depth_left) (nesting_of context.nesting) self.old.reader)) }

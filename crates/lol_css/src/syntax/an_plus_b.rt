@@ -8,7 +8,7 @@ ghost use Rattle.lol_css.specs.Tokens as tokens;
 ghost use Rattle.lol_css.specs.AnPlusB.{integer, an_plus_b, an_plus_b_of, rest_of, an_plus_b_of_dimension, after_n, digits_of_b, bounded_integer, with_sign, is_n_and_digits};
 ghost use Rattle.lol_css.specs.Views.{Reads, ReadsFirst, numeral_of, token_of, points_of};
 
-use crate::error::SelectorError;
+use crate::error::{Read, SelectorError};
 use crate::syntax::reader::{Nesting, Reader};
 use crate::syntax::texts::Name;
 use crate::syntax::tokens::{Numeral, Sign, Token};
@@ -58,7 +58,7 @@ fn name_magnitude(name: Name<'_>) -> Option<u64>
 
 /// A magnitude with its sign: `UnexpectedToken` outside `i32`.
 #[tactic(auto, unfolding(crate::specs::AnPlusB::bounded_integer))]
-fn bounded_integer(sign: Sign, magnitude: u64) -> Result<i32, SelectorError>
+fn bounded_integer(sign: Sign, magnitude: u64) -> Read<i32>
     requires { magnitude ≤ TOO_LARGE }
     ensures { (tokens : List tokens.Token)
         → ReadsFirst (λ x. x) result tokens (bounded_integer (with_sign sign magnitude) tokens) }
@@ -72,7 +72,7 @@ fn bounded_integer(sign: Sign, magnitude: u64) -> Result<i32, SelectorError>
 }
 
 /// The value of a number of these digits: `UnexpectedToken` outside `i32`.
-fn value(sign: Sign, digits: &[char]) -> Result<i32, SelectorError>
+fn value(sign: Sign, digits: &[char]) -> Read<i32>
     ensures { (tokens : List tokens.Token)
         → ReadsFirst (λ x. x) result tokens (bounded_integer (with_sign sign (decimal digits.now)) tokens) }
 {
@@ -81,7 +81,7 @@ fn value(sign: Sign, digits: &[char]) -> Result<i32, SelectorError>
 
 /// White space and a number without a sign, which gets this one.
 #[tactic(auto, unfolding(crate::specs::AnPlusB::digits_of_b, crate::specs::Rules::required_token))]
-fn digits_of_b(sign: Sign, reader: &mut Reader<'_>) -> Result<i32, SelectorError>
+fn digits_of_b(sign: Sign, reader: &mut Reader<'_>) -> Read<i32>
     ensures { Reads (λ x. x) result reader.new (digits_of_b sign reader.old) }
 {
     reader.skip_space();
@@ -102,7 +102,7 @@ fn digits_of_b(sign: Sign, reader: &mut Reader<'_>) -> Result<i32, SelectorError
 
 /// B after `n` and white space; 0, with nothing taken, where none stands.
 #[tactic(auto, unfolding(crate::specs::AnPlusB::after_n))]
-fn after_n(reader: &mut Reader<'_>) -> Result<i32, SelectorError>
+fn after_n(reader: &mut Reader<'_>) -> Read<i32>
     ensures { Reads (λ x. x) result reader.new (after_n reader.old) }
 {
     match reader.peek() {
@@ -146,7 +146,7 @@ fn digits_after_n(name: Name<'_>) -> Option<u64>
 
 /// B, of which the name that ends the next token holds the beginning: `n`, `n-`, or `n-` with digits.
 #[tactic(auto, unfolding(crate::specs::AnPlusB::rest_of))]
-fn rest_of(name: Name<'_>, reader: &mut Reader<'_>) -> Result<i32, SelectorError>
+fn rest_of(name: Name<'_>, reader: &mut Reader<'_>) -> Read<i32>
     ensures { Reads (λ x. x) result reader.new (rest_of (points_of name.entry) reader.old) }
 {
     if name.is_word("n") {
@@ -168,7 +168,7 @@ fn rest_of(name: Name<'_>, reader: &mut Reader<'_>) -> Result<i32, SelectorError
 
 /// A and B, of which the next token is this name.
 #[tactic(auto, unfolding(crate::specs::AnPlusB::an_plus_b_of))]
-fn named(name: Name<'_>, reader: &mut Reader<'_>) -> Result<(i32, i32), SelectorError>
+fn named(name: Name<'_>, reader: &mut Reader<'_>) -> Read<(i32, i32)>
     ensures { Reads (λ x. x) result reader.new (an_plus_b_of (tokens.Ident (points_of name.entry)) reader.old) }
 {
     if name.is_word("even") {
@@ -187,7 +187,7 @@ fn named(name: Name<'_>, reader: &mut Reader<'_>) -> Result<(i32, i32), Selector
 
 /// The value of an integer: `UnexpectedToken` where it has a fraction or an exponent, or lies outside `i32`.
 #[tactic(auto, unfolding(crate::specs::AnPlusB::integer))]
-fn integer(number: Numeral<'_>) -> Result<i32, SelectorError>
+fn integer(number: Numeral<'_>) -> Read<i32>
     ensures { (tokens : List tokens.Token)
         → ReadsFirst (λ x. x) result tokens (integer (numeral_of number.entry) tokens) }
 {
@@ -197,7 +197,7 @@ fn integer(number: Numeral<'_>) -> Result<i32, SelectorError>
 
 /// A and B, of which this is the next token.
 #[tactic(auto, unfolding(crate::specs::AnPlusB::an_plus_b_of, crate::specs::AnPlusB::an_plus_b_of_dimension, crate::specs::Rules::required_token))]
-fn an_plus_b_of(token: Token<'_>, reader: &mut Reader<'_>) -> Result<(i32, i32), SelectorError>
+fn an_plus_b_of(token: Token<'_>, reader: &mut Reader<'_>) -> Read<(i32, i32)>
     ensures { Reads (λ x. x) result reader.new (an_plus_b_of (token_of token.entry) reader.old) }
 {
     match token {
@@ -221,7 +221,7 @@ fn an_plus_b_of(token: Token<'_>, reader: &mut Reader<'_>) -> Result<(i32, i32),
 
 /// A and B, up to the parenthesis that closes them.
 #[tactic(auto, unfolding(crate::specs::AnPlusB::an_plus_b, crate::specs::Rules::required_token))]
-pub(crate) fn an_plus_b(reader: &mut Reader<'_>) -> Result<NthChild, SelectorError>
+pub(crate) fn an_plus_b(reader: &mut Reader<'_>) -> Read<NthChild>
     ensures { Reads (λ nth. (nth.step, nth.offset)) result reader.new (an_plus_b reader.old) }
 {
     reader.skip_space();

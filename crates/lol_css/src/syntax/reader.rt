@@ -9,7 +9,7 @@ ghost use Rattle.lol_css.specs.Rules.{skip_space, is_delim, required_token, iden
 ghost use Rattle.lol_css.specs.Views.{token_of, points_of, IsFirst, nesting_of, Reads, IsRequired};
 ghost use Rattle.lol_css.specs.declared.error.SelectorError.TheVariants.{UnexpectedToken};
 
-use crate::error::SelectorError;
+use crate::error::{Read, SelectorError};
 use crate::syntax::texts::Name;
 use crate::syntax::tokens::{FirstToken, Token, count_tokens, first_token};
 use std::marker::Model;
@@ -116,7 +116,7 @@ impl<'a> Reader<'a> {
 
     /// The token that is wanted here, which stays: `UnexpectedEnd` where what is open ends.
     #[tactic(auto, unfolding(crate::specs::Rules::required_token))]
-    pub(crate) fn expect(&self, nesting: Nesting) -> Result<Token<'a>, SelectorError>
+    pub(crate) fn expect(&self, nesting: Nesting) -> Read<Token<'a>>
         ensures { IsRequired (nesting_of nesting) result self.now }
     {
         if self.is_at_end(nesting) {
@@ -127,11 +127,7 @@ impl<'a> Reader<'a> {
 
     /// The name that is wanted here, which is taken: `UnexpectedEnd` where what is open ends, `other` at another token.
     #[tactic(auto, unfolding(crate::specs::Rules::required_token))]
-    pub(crate) fn expect_name(
-        &mut self,
-        nesting: Nesting,
-        other: SelectorError,
-    ) -> Result<Name<'a>, SelectorError>
+    pub(crate) fn expect_name(&mut self, nesting: Nesting, other: SelectorError) -> Read<Name<'a>>
         ensures { Reads points_of result self.new (required_token (nesting_of nesting) ident_of other self.old) }
     {
         match self.expect(nesting)? {
@@ -145,7 +141,7 @@ impl<'a> Reader<'a> {
 
     /// White space and the end of what is open, which is taken: `UnexpectedToken` at anything else.
     #[tactic(auto, unfolding(crate::specs::Rules::block_end))]
-    pub(crate) fn close(&mut self, nesting: Nesting) -> Result<(), SelectorError>
+    pub(crate) fn close(&mut self, nesting: Nesting) -> Read<()>
         ensures { Reads (λ x. x) result self.new (block_end (nesting_of nesting) self.old) }
     {
         self.skip_space();

@@ -159,11 +159,8 @@ fn hash(text: &[char]) -> Found<'_>
     if !matches!(rest, [c, ..] if is_in_name(*c)) && !begins_escape(rest) {
         return None;
     }
-    let name = Name { text: rest };
-    Some((
-        Some(Token::Hash(name, starts_identifier(rest))),
-        after_name(rest),
-    ))
+    let hash = Token::Hash(Name { text: rest }, starts_identifier(rest));
+    Some((Some(hash), after_name(rest)))
 }
 
 fn decimal_digit(text: &[char]) -> Option<(char, &[char])>
@@ -227,11 +224,8 @@ fn split_number(text: &[char]) -> (Numeral<'_>, &[char])
     let (sign, digits) = split_sign(text);
     let after = after_digits(digits);
     let rest = after_exponent(after_fraction(after));
-    let integer = if rest.len() == after.len() {
-        Some(&digits[..digits.len() - after.len()])
-    } else {
-        None
-    };
+    let integer = &digits[..digits.len() - after.len()];
+    let integer = (rest.len() == after.len()).then_some(integer);
     (Numeral { sign, integer }, rest)
 }
 
