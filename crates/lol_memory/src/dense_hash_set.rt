@@ -82,7 +82,7 @@ impl DenseHashSet {
         }
     }
 
-    /// Adds the ids of `other`, of which one alone is added in place.
+    /// Adds the ids of `other`: in place where it is one alone or there is room for each, or else by words that are made anew from those of both.
     fn add_sparse(&mut self, other: &DenseHashSet) -> Result<(), AllocError>
         ensures ok { OnOk result (self.new ≡ joined self.old other.now) }
         ensures no_memory { HasRoomFor self.old other.now → IsOk result }
@@ -96,15 +96,6 @@ impl DenseHashSet {
             *self = other.try_clone()?;
             return Ok(());
         }
-        self.add_each(other)
-    }
-
-    /// Adds the ids of `other`: in place where there is room for each, or else by words that are made anew from those of both.
-    fn add_each(&mut self, other: &DenseHashSet) -> Result<(), AllocError>
-        ensures ok { OnOk result (self.new ≡ joined self.old other.now) }
-        ensures no_memory { HasRoomFor self.old other.now → IsOk result }
-        ensures err { OnErr result (self.new ≡ self.old) }
-    {
         if self.has_room_for(other) {
             self.mark_each(other);
             return Ok(());

@@ -92,13 +92,9 @@ impl<'a> Iterator for DenseHashSetIter<'a> {
     ghost remaining = { item_count (λ rest. rest) };
 
     fn next(&mut self) -> Option<MatchId> {
-        match self.words.first_from(self.next_id) {
-            Some(id) => {
-                self.next_id = id + 1;
-                Some(id as MatchId)
-            }
-            None => None,
-        }
+        let id = self.words.first_from(self.next_id)?;
+        self.next_id = id + 1;
+        Some(id as MatchId)
     }
 }
 

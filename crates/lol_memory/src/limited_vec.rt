@@ -141,13 +141,10 @@ impl<T> LimitedVec<T> {
     pub fn is_limited(&self, limiter: &SharedMemoryLimiter) -> bool
         ensures { IsTrue result ↔ IsLimited self.now limiter.now }
     {
-        if self.vec.len() < self.vec.capacity() {
-            return false;
-        }
-        match self.growth() {
-            Some((_, charge)) => limiter.would_pass(charge),
-            None => true,
-        }
+        self.len() == self.slots()
+            && self
+                .growth()
+                .is_none_or(|(_, charge)| limiter.would_pass(charge))
     }
 
     /// Charges and makes the slots that the next push needs, which is then neither a growth nor a charge. It is refused as `push` is.
@@ -294,8 +291,7 @@ fn minimum_slots(item_bytes: usize) -> usize
     requires { 0 < item_bytes }
     ensures { result ≡ least_slots item_bytes }
 {
-    let items = 128 / item_bytes;
-    if items >= 8 { items } else { 8 }
+    (128 / item_bytes).max(8)
 }
 
 /// Moves a range to the back, its last element first.

@@ -57,23 +57,18 @@ impl SharedMemoryLimiter {
         ensures refused { IsErr result ↔ Passes self.old byte_count }
         ensures unchanged { OnErr result (self.new ≡ self.old) }
     {
-        match self.current_usage.checked_add(byte_count) {
-            Some(usage) if usage <= self.max => {
-                self.current_usage = usage;
-                Ok(())
-            }
-            _ => Err(MemoryLimitExceededError),
+        if self.would_pass(byte_count) {
+            return Err(MemoryLimitExceededError);
         }
+        self.current_usage += byte_count;
+        Ok(())
     }
 
     /// Whether `byte_count` bytes more would pass the maximum, so that counting them is refused.
     pub fn would_pass(&self, byte_count: usize) -> bool
         ensures { IsTrue result ↔ Passes self.now byte_count }
     {
-        match self.current_usage.checked_add(byte_count) {
-            Some(usage) => usage > self.max,
-            None => true,
-        }
+        byte_count > self.max - self.current_usage
     }
 
     /// How many bytes more may be counted.

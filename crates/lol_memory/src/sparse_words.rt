@@ -115,8 +115,7 @@ fn lowest(words: &[SparseWord], index: usize, more: &[SparseWord], more_index: u
 {
     match (words.get(index), more.get(more_index)) {
         (Some(word), Some(other)) => Some(word.number.min(other.number)),
-        (Some(word), None) => Some(word.number),
-        (None, Some(other)) => Some(other.number),
+        (Some(word), None) | (None, Some(word)) => Some(word.number),
         (None, None) => None,
     }
 }

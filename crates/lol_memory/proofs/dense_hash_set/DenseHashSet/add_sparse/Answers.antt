@@ -2,6 +2,8 @@ use Rattle.std.proofs.Common.{◌≡◌, true, IsOk, sym, subst, ◌∙◌}
 use Rattle.std.specs.Result.{OnOk}
 use Rattle.std.proofs.lemmas.Bool.{true≢false}
 use Rattle.lol_memory.specs.Ids.{with_id, union, has, no_ids}
+use Rattle.lol_memory.specs.WordsOf.{words_of}
+use Rattle.lol_memory.proofs.WordsLemmas.{joined}
 use Rattle.lol_memory.proofs.UnionLemmas.{union_with_one, one_is_held, none_held, union_from_none, room_in_none}
 use Rattle.lol_memory.proofs.dense_hash_set.DenseHashSet.add_sparse.Goals.{After-insert}
 use Rattle.lol_memory.proofs.dense_hash_set.DenseHashSet.add_sparse.Goals as goal
@@ -23,12 +25,24 @@ returns-in-Some-None-clause-ok c = subst (λ s. OnOk c.insert.result (c.insert.n
 pub returns-in-Some-None-clause-no_memory : goal.returns-in-Some-None-clause-no_memory
 returns-in-Some-None-clause-no_memory c room = c.insert.ensures.no_memory (room c.in-Some-None.id (held c))
 
-pub returns-in_err-self-clause-no_memory : goal.returns-in_err-self-clause-no_memory
-returns-in_err-self-clause-no_memory c room =
+pub returns-in_err-self-inside-clause-no_memory : goal.returns-in_err-self-inside-clause-no_memory
+returns-in_err-self-inside-clause-no_memory c room =
     let none : c.args.self.now ≡ no_ids = none_held c.args.self.now c.iter.result c.next-3.new.self c.next-3.result c.iter.ensures.items c.if-is_none.ensures c.next-3.ensures.steps in
-    absurd (true≢false (sym (subst IsOk c.in_err-self.was (c.try_clone.ensures.no_memory (room_in_none c.args.self.now c.args.other.now none room)))))
+    absurd (true≢false (sym (subst IsOk c.in_err-self-inside.was (c.try_clone.ensures.no_memory (room_in_none c.args.self.now c.args.other.now none room)))))
 
 pub returns-then-is_none-clause-ok : goal.returns-then-is_none-clause-ok
 returns-then-is_none-clause-ok c =
     let none : c.args.self.now ≡ no_ids = none_held c.args.self.now c.iter.result c.next-3.new.self c.next-3.result c.iter.ensures.items c.if-is_none.ensures c.next-3.ensures.steps in
-    c.in_ok-self.ensures.ok ∙ union_from_none c.args.self.now c.args.other.now none
+    c.branch.view_is ∙ (c.in_ok-self-inside.ensures.ok ∙ union_from_none c.args.self.now c.args.other.now none)
+
+pub invariant_of-self-2 : goal.invariant_of-self-2
+invariant_of-self-2 c =
+    let here = words_of c.self.inside.words in
+    let more = words_of c.other.inside.words in
+    ((joined here more (words_of c.in_ok-self-inside-2.field-0) c.self.invariant.0 c.other.invariant.0 c.in_ok-self-inside-2.ensures.joined).0, c.in_ok-self-inside-2.ensures.form)
+
+pub returns-clause-ok : goal.returns-clause-ok
+returns-clause-ok c =
+    let here = words_of c.self.inside.words in
+    let more = words_of c.other.inside.words in
+    (joined here more (words_of c.in_ok-self-inside-2.field-0) c.self.invariant.0 c.other.invariant.0 c.in_ok-self-inside-2.ensures.joined).1 ∙ (λ i. union (c.self.view_is i) (c.other.view_is i))
