@@ -39,10 +39,9 @@ impl CompiledLocalNameExpr {
             LocalNameExprTest::Any => true,
             LocalNameExprTest::Never => false,
             LocalNameExprTest::NthChild(nth) => state.cumulative.is_nth(*nth),
-            LocalNameExprTest::NthOfType(nth) => match state.typed {
-                Some(counter) => counter.is_nth(*nth),
-                None => false,
-            },
+            LocalNameExprTest::NthOfType(nth) => {
+                state.typed.is_some_and(|counter| counter.is_nth(*nth))
+            }
         }
     }
 }

@@ -93,7 +93,7 @@ impl CompiledTest {
         ensures { result ≡ test_value self.now (sight state.now local_name.now) }
     {
         match self {
-            CompiledTest::Name(expr) => NameValue::of_test(expr.eval(state, local_name)),
+            CompiledTest::Name(expr) => NameValue::True.only_if(expr.eval(state, local_name)),
             CompiledTest::Attribute(_) => NameValue::Open,
             CompiledTest::NoneOf(predicates) => {
                 some_by_names(predicates, state, local_name).opposite()

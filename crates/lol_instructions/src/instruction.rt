@@ -116,11 +116,8 @@ impl Instruction {
             NameValue::False => None,
             NameValue::Open => {
                 tries.add_attributes();
-                if self.passes(state, local_name, matcher) {
-                    Some(&self.associated_branch)
-                } else {
-                    None
-                }
+                self.passes(state, local_name, matcher)
+                    .then_some(&self.associated_branch)
             }
         }
     }
@@ -170,6 +167,6 @@ impl Instruction {
     ) -> bool
         ensures { result ≡ predicate_holds self.now.predicate (sight state.now local_name.now) matcher.now }
     {
-        !matcher.lacks(self.marks.needs()) && self.predicate.eval(state, local_name, matcher)
+        !matcher.lacks(self.marks.needs) && self.predicate.eval(state, local_name, matcher)
     }
 }

@@ -70,10 +70,7 @@ impl CompiledPredicate {
         if let Some(key) = first_part(&self.tests) {
             return Some(key);
         }
-        match first_attribute(&self.tests) {
-            Some(name) => Some(KeyBytes::Attribute(name)),
-            None => None,
-        }
+        first_attribute(&self.tests).map(KeyBytes::Attribute)
     }
 
     /// Whether it is known of each element of the name that its attributes are needed: but for the test of the name, and `*`, there are

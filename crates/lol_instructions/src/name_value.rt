@@ -1,7 +1,7 @@
 //! What is known of a compound before attributes are.
 
 ghost use Rattle.std.specs.Prelude.{◌≡◌};
-ghost use Rattle.lol_instructions.specs.Compounds.{value_of_bool, both, either, opposite};
+ghost use Rattle.lol_instructions.specs.Compounds.{both, either, opposite};
 ghost use Rattle.lol_instructions.specs.PredicateMarks.{value_if};
 
 /// What an element's name and position alone say of whether it passes a test or a compound.
@@ -16,29 +16,14 @@ pub enum NameValue {
 }
 
 impl NameValue {
-    /// The value of a test that names and positions alone decide.
-    #[inline(always)]
-    pub(crate) fn of_test(passes: bool) -> Self
-        ensures { result ≡ value_of_bool passes }
-    {
-        if passes {
-            NameValue::True
-        } else {
-            NameValue::False
-        }
-    }
-
     /// The value of two tests together.
     pub(crate) fn and(self, other: NameValue) -> Self
         ensures { result ≡ both self other }
     {
-        match self {
-            NameValue::True => other,
-            NameValue::False => NameValue::False,
-            NameValue::Open => match other {
-                NameValue::False => NameValue::False,
-                NameValue::True | NameValue::Open => NameValue::Open,
-            },
+        match (self, other) {
+            (NameValue::True, _) => other,
+            (NameValue::False, _) | (_, NameValue::False) => NameValue::False,
+            _ => NameValue::Open,
         }
     }
 
@@ -46,13 +31,10 @@ impl NameValue {
     pub(crate) fn or(self, other: NameValue) -> Self
         ensures { result ≡ either self other }
     {
-        match self {
-            NameValue::True => NameValue::True,
-            NameValue::False => other,
-            NameValue::Open => match other {
-                NameValue::True => NameValue::True,
-                NameValue::False | NameValue::Open => NameValue::Open,
-            },
+        match (self, other) {
+            (NameValue::False, _) => other,
+            (NameValue::True, _) | (_, NameValue::True) => NameValue::True,
+            _ => NameValue::Open,
         }
     }
 

@@ -31,10 +31,9 @@ impl PositionTest {
     {
         match self {
             PositionTest::NthChild(nth) => state.cumulative.is_nth(*nth),
-            PositionTest::NthOfType(nth) => match state.typed {
-                Some(counter) => counter.is_nth(*nth),
-                None => false,
-            },
+            PositionTest::NthOfType(nth) => {
+                state.typed.is_some_and(|counter| counter.is_nth(*nth))
+            }
         }
     }
 }
@@ -82,8 +81,8 @@ pub(crate) struct PredicateMarks {
     // The code of the name without which an element fails, where there is one.
     head: Option<u64>,
     shape: Shape,
-    // Marks of attributes, without one of which an element fails.
-    needs: Marks,
+    /// Marks of attributes, without one of which an element fails.
+    pub(crate) needs: Marks,
 }
 
 impl PredicateMarks {
@@ -118,24 +117,13 @@ impl PredicateMarks {
         }
     }
 
-    /// The marks of attributes without one of which an element fails.
-    #[inline(always)]
-    pub(crate) fn needs(&self) -> Marks
-        ensures { result ≡ self.now.needs }
-    {
-        self.needs
-    }
-
     #[inline(always)]
     fn head_holds(&self, local_name: &LocalName<'_>) -> bool
         ensures { result ≡ head_holds self.now.head local_name.now.lowercased }
     {
         match self.head {
             None => true,
-            Some(code) => match local_name.code() {
-                None => false,
-                Some(other) => other == code,
-            },
+            Some(code) => local_name.code() == Some(code),
         }
     }
 
@@ -165,12 +153,9 @@ impl PredicateMarks {
     fn value_of_all(&self) -> Option<NameValue>
         ensures { (v : NameValue) → result ≡ Some v → (s : Sight) → marks_value self.now s ≡ Some v }
     {
-        if self.head.is_some() {
-            return None;
-        }
-        match &self.shape {
-            Shape::Anywhere(value) => Some(*value),
-            Shape::At(..) | Shape::Mixed => None,
+        match (self.head, self.shape) {
+            (None, Shape::Anywhere(value)) => Some(value),
+            _ => None,
         }
     }
 
@@ -242,10 +227,7 @@ fn value_of_some(predicates: &[CompiledPredicate]) -> Option<NameValue>
 {
     let mut value = NameValue::False;
     for predicate in predicates {
-        match PredicateMarks::of(&predicate.tests).value_of_all() {
-            Some(other) => value = value.or(other),
-            None => return None,
-        }
+        value = value.or(PredicateMarks::of(&predicate.tests).value_of_all()?);
     }
     Some(value)
 }

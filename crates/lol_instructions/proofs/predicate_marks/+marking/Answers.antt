@@ -48,6 +48,7 @@ PredicateMarks::of_test-returns-in-Some-value_of_some t c =
 pub value_of_some-loop-predicate-preserved : goal.value_of_some-loop-predicate-preserved
 value_of_some-loop-predicate-preserved t c s =
     let x = c.predicate-item.result in
-    let said : all_values (λ test. test_value test s) c.deref.result.now ≡ c.in-Some.other = c.of.ensures.value s c.in-Some.other (c.value_of_all.ensures c.in-Some.other c.in-Some.is s) in
-    some_more s c.args.predicates.now c.loop-predicate.predicate-index x c.loop-predicate.value c.in-Some.other c.or-value.result c.loop-predicate-test.true c.predicate-item.is (c.loop-predicate.invariant s)
+    let other = c.in_ok-value_of_all.field-0 in
+    let said : all_values (λ test. test_value test s) c.deref.result.now ≡ other = c.of.ensures.value s other (c.value_of_all.ensures other c.in_ok-value_of_all.was s) in
+    some_more s c.args.predicates.now c.loop-predicate.predicate-index x c.loop-predicate.value other c.or-value.result c.loop-predicate-test.true c.predicate-item.is (c.loop-predicate.invariant s)
     (ap (all_values (λ test. test_value test s)) (sym c.deref.ensures.value) ∙ said) c.or-value.ensures

@@ -6,6 +6,3 @@ returns-in-Some-first_class c = search rules
 
 pub returns-in-Some : goal.returns-in-Some
 returns-in-Some c = search rules
-
-pub returns-in-Some-first_attribute : goal.returns-in-Some-first_attribute
-returns-in-Some-first_attribute c = search rules
