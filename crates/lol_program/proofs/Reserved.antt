@@ -19,8 +19,8 @@ use Rattle.lol_program.proofs.Standing.{KeepsWith, Leaves}
 fits_with : (given : IdForNode) (id : ℕ) → id_in given ≡ Some id → (old new : List ℕ) → IsWith id old new → Fits given old → Fits given new
 fits_with Nothing id is old new with h = tt
 fits_with (Id k) id is old new with h = held_has_room (set_of new) k (has_if_listed new k ((with k).1 (inr (sym (same_Some k id is)))))
-fits_with (Reserved r) id is old new with h =
-    h ∙ sym (ap (λ (s : Ids). with_id s r.id) (set_of-IsWith id old new with ∙ ap (with_id (set_of old)) (sym (same_Some r.id id is))) ∙ with_id-again (set_of old) r.id)
+fits_with (Reserved k set) id is old new with h =
+    h ∙ sym (ap (λ (s : Ids). with_id s k) (set_of-IsWith id old new with ∙ ap (with_id (set_of old)) (sym (same_Some k id is))) ∙ with_id-again (set_of old) k)
 
 pub fits_stay : (given : IdForNode) (taken : Option ℕ) (id : ℕ) → id_in given ≡ Some id → taken ≡ Some id → Leaves taken (Fits given)
 fits_stay given taken id is same x e old new with h = fits_with given x (is ∙ sym same ∙ e) old new with h

@@ -9,7 +9,7 @@ use Rattle.lol_program.specs.declared.node_id.IdForNode.TheVariants.{Nothing, Id
 abbrev pub id_in : IdForNode → Option ℕ
 id_in Nothing = None
 id_in (Id id) = Some id
-id_in (Reserved reserved) = Some reserved.id
+id_in (Reserved id set) = Some id
 
 -- a set takes the id, if there is one
 abbrev pub SetTakes : Option ℕ → Ids → Ids → Type 0
@@ -24,13 +24,13 @@ set_of ids = with_ids no_ids ids
 abbrev pub Fits : IdForNode → List ℕ → Type 0
 Fits Nothing ids = Unit {0}
 Fits (Id id) ids = HasRoom (set_of ids) id
-Fits (Reserved reserved) ids = reserved.set ≡ with_id (set_of ids) reserved.id
+Fits (Reserved id set) ids = set ≡ with_id (set_of ids) id
 
 -- it has memory of its own
 abbrev pub IsReserved : IdForNode → Type 0
 IsReserved Nothing = ⊥
 IsReserved (Id id) = ⊥
-IsReserved (Reserved reserved) = Unit {0}
+IsReserved (Reserved id set) = Unit {0}
 
 -- the pair of a path that gets it
 abbrev pub pairs_with : Option ℕ → Path → List (Path × ℕ)

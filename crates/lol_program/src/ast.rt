@@ -9,7 +9,7 @@ use crate::ast_node::{self, AstNode};
 use crate::node_id::IdForNode;
 use crate::node_index::NodeIndex;
 use crate::node_key::root_list;
-use lol_css::{ComplexSelector, Selector, SelectorList};
+use lol_css::{ComplexSelector, Selector};
 use lol_memory::MatchId;
 use std::alloc::{AllocError, Global};
 
@@ -120,7 +120,13 @@ impl Ast {
             (all_beginnings (pairs_under match_id (list_of selector.now)))) }
         ensures rows { is_with_rows self.new ≡ is_with_rows self.old }
     {
-        self.add_list(selector.list(), match_id)
+        match selector.list().items.as_slice() {
+            [item] => self.add_path(item, IdForNode::Id(match_id)),
+            items => {
+                self.add_nodes(items)?;
+                self.add_id(items, match_id)
+            }
+        }
     }
 
     /// Adds one item of a selector's list under an id, as `add_selector` adds each of them: where each item has an id of its own, a report
@@ -139,25 +145,6 @@ impl Ast {
         ensures rows { is_with_rows self.new ≡ is_with_rows self.old }
     {
         self.add_path(item, IdForNode::Id(match_id))
-    }
-
-    fn add_list(&mut self, list: &SelectorList, match_id: MatchId) -> Result<(), AllocError>
-        ensures pairs { OnOk result
-            (Joins (pairs_of self.old) (pairs_of self.new) (pairs_under match_id (list_of list.now))) }
-        ensures nodes { OnOk result
-            (Joins (nodes_of self.old) (nodes_of self.new) (all_beginnings (pairs_under match_id (list_of list.now)))) }
-        ensures refused_pairs { OnErr result (SameMembers (pairs_of self.old) (pairs_of self.new)) }
-        ensures refused_nodes { OnErr result (IsBetween (nodes_of self.old) (nodes_of self.new)
-            (all_beginnings (pairs_under match_id (list_of list.now)))) }
-        ensures rows { is_with_rows self.new ≡ is_with_rows self.old }
-    {
-        match list.items.as_slice() {
-            [item] => self.add_path(item, IdForNode::Id(match_id)),
-            items => {
-                self.add_nodes(items)?;
-                self.add_id(items, match_id)
-            }
-        }
     }
 
     fn add_path(&mut self, item: &ComplexSelector, id: IdForNode) -> Result<(), AllocError>
@@ -235,24 +222,16 @@ impl Ast {
     {
         let mut ids = Vec::with_capacity(self.alloc, items.len())?;
         for item in items {
-            ids.push(self.reserve_id(item, match_id)?)?;
+            let id = ast_node::reserve_id(
+                &self.node_index,
+                &self.root,
+                &mut root_list(),
+                &item.first,
+                &item.rest,
+                match_id,
+            )?;
+            ids.push(id)?;
         }
         Ok(ids)
-    }
-
-    /// An id for the last node of a path that stands, with memory of its own where the node has no room for it.
-    fn reserve_id(&self, item: &ComplexSelector, match_id: MatchId) -> Result<IdForNode, AllocError>
-        requires { IsIn (trees_of self.now) item.now }
-        ensures given { IfOk result (λ id. id_in id ≡ Some match_id) }
-        ensures fits { IfOk result (λ id. IsInWith (Fits id) (trees_of self.now) item.now) }
-    {
-        ast_node::reserve_id(
-            &self.node_index,
-            &self.root,
-            &mut root_list(),
-            &item.first,
-            &item.rest,
-            match_id,
-        )
     }
 }

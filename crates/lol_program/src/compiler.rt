@@ -75,29 +75,17 @@ impl Compiler {
         let mut root = ast.into_root();
         let entry_points = 0..root.len();
         layout.compile_nodes(&mut root)?;
-        let rows = rows_if(self.alloc, with_rows, &layout.instructions)?;
+        let rows = if with_rows {
+            Some(Rows::of(self.alloc, &layout.instructions)?)
+        } else {
+            None
+        };
         Ok(Program {
             instructions: layout.instructions,
             entry_points,
             enable_nth_of_type: layout.enable_nth_of_type,
             rows,
         })
-    }
-}
-
-/// The rows of some instructions, if they are wanted.
-fn rows_if(
-    alloc: Global,
-    are_wanted: bool,
-    instructions: &[Instruction],
-) -> Result<Option<Rows>, AllocError>
-    ensures rows { IfOk result (AreItsRows instructions.now) }
-    ensures mode { IfOk result (λ rows. is_some rows ≡ are_wanted) }
-{
-    if are_wanted {
-        Ok(Some(Rows::of(alloc, instructions)?))
-    } else {
-        Ok(None)
     }
 }
 
@@ -212,14 +200,16 @@ impl Layout {
         };
         let predicate = mem::replace(predicate, no_tests);
         let matched_ids = mem::replace(match_ids, DenseHashSet::new(self.alloc));
-        let predicate = self.compile_predicate(predicate)?;
+        let tests = compile_tests(self.alloc, predicate.tests, &mut self.enable_nth_of_type)?;
         let associated_branch = ExecutionBranch {
             matched_ids,
             jumps: None,
             hereditary_jumps: None,
         };
-        let instruction = Instruction::new(associated_branch, predicate);
-        self.instructions[address] = instruction;
+        self.instructions[address] = Instruction::new(
+            associated_branch,
+            CompiledPredicate::new(tests),
+        );
         Ok(())
     }
 
@@ -239,18 +229,5 @@ impl Layout {
         let branch = &mut self.instructions[address].associated_branch;
         branch.jumps = jumps;
         branch.hereditary_jumps = hereditary_jumps;
-    }
-
-    fn compile_predicate(&mut self, predicate: Predicate) -> Result<CompiledPredicate, AllocError>
-        ensures tests { IfOk result (λ compiled. AreCompiledTests (tests_in compiled) (tests_of predicate)) }
-        ensures keys { IfOk result (λ compiled.
-            map compiled_key_test (tests_in compiled) ≡ key_tests (tests_of predicate)) }
-        ensures by_type { OnOk result (self.new.enable_nth_of_type
-            ≡ (self.old.enable_nth_of_type || has_test_by_type (tests_of predicate))) }
-        ensures free_space { self.new.free_space_start ≡ self.old.free_space_start }
-        ensures instructions { self.new.instructions ≡ self.old.instructions }
-    {
-        let tests = compile_tests(self.alloc, predicate.tests, &mut self.enable_nth_of_type)?;
-        Ok(CompiledPredicate::new(tests))
     }
 }

@@ -35,27 +35,27 @@ impl OnTagNameExpr {
     pub(crate) fn is_of(&self, part: &SimpleSelector) -> bool
         ensures { IsTrue result ↔ (OfName (name_test self.now) ≡ part_test (part_of part.now)) }
     {
-        match self {
-            OnTagNameExpr::ExplicitAny => matches!(part, SimpleSelector::ExplicitUniversalType),
-            OnTagNameExpr::Unmatchable => matches!(part, SimpleSelector::ExplicitNoNamespace),
-            OnTagNameExpr::LocalName(name) => match part {
-                SimpleSelector::LocalName(other) => name.as_str() == other.as_str(),
-                _ => false,
-            },
-            OnTagNameExpr::NthChild(nth) => match part {
+        match (self, part) {
+            (OnTagNameExpr::ExplicitAny, SimpleSelector::ExplicitUniversalType)
+            | (OnTagNameExpr::Unmatchable, SimpleSelector::ExplicitNoNamespace) => true,
+            (OnTagNameExpr::LocalName(name), SimpleSelector::LocalName(other)) => {
+                name.as_str() == other.as_str()
+            }
+            (
+                OnTagNameExpr::NthChild(nth),
                 SimpleSelector::Nth {
-                    of_type: false,
+                    of_type,
                     nth: other,
-                } => nth == other,
-                _ => false,
-            },
-            OnTagNameExpr::NthOfType(nth) => match part {
+                },
+            ) => { !of_type && nth == other }
+            (
+                OnTagNameExpr::NthOfType(nth),
                 SimpleSelector::Nth {
-                    of_type: true,
+                    of_type,
                     nth: other,
-                } => nth == other,
-                _ => false,
-            },
+                },
+            ) => { *of_type && nth == other }
+            _ => false,
         }
     }
 }
@@ -87,33 +87,28 @@ impl OnAttributesExpr {
     pub(crate) fn is_of(&self, part: &SimpleSelector) -> bool
         ensures { IsTrue result ↔ (OfAttributes (attribute_test self.now) ≡ part_test (part_of part.now)) }
     {
-        match self {
-            OnAttributesExpr::Id(id) => match part {
-                SimpleSelector::ID(other) => id.as_str() == other.as_str(),
-                _ => false,
-            },
-            OnAttributesExpr::Class(name) => match part {
-                SimpleSelector::Class(other) => name.as_str() == other.as_str(),
-                _ => false,
-            },
-            OnAttributesExpr::AttributeExists(name) => match part {
-                SimpleSelector::AttributeExists { name: other } => name.as_str() == other.as_str(),
-                _ => false,
-            },
-            OnAttributesExpr::AttributeComparisonExpr(test) => match part {
+        match (self, part) {
+            (OnAttributesExpr::Id(name), SimpleSelector::ID(other))
+            | (OnAttributesExpr::Class(name), SimpleSelector::Class(other))
+            | (
+                OnAttributesExpr::AttributeExists(name),
+                SimpleSelector::AttributeExists { name: other },
+            ) => name.as_str() == other.as_str(),
+            (
+                OnAttributesExpr::AttributeComparisonExpr(test),
                 SimpleSelector::AttributeComparison {
                     name,
                     value,
                     operator,
                     case_sensitivity,
-                } => {
-                    test.name.as_str() == name.as_str()
-                        && test.value.as_str() == value.as_str()
-                        && test.operator == *operator
-                        && test.case_sensitivity == *case_sensitivity
-                }
-                _ => false,
-            },
+                },
+            ) => {
+                test.name.as_str() == name.as_str()
+                    && test.value.as_str() == value.as_str()
+                    && test.operator == *operator
+                    && test.case_sensitivity == *case_sensitivity
+            }
+            _ => false,
         }
     }
 }

@@ -16,8 +16,8 @@ pub(crate) enum IdForNode {
     /// An id, for which the node's set grows where it has no room.
     Id(MatchId),
 
-    /// An id with memory of its own.
-    Reserved(ReservedId),
+    /// An id with memory of its own: the set that the node has with it.
+    Reserved(MatchId, DenseHashSet),
 }
 
 impl IdForNode {
@@ -29,7 +29,9 @@ impl IdForNode {
         if ids.has_room(id) {
             return Ok(IdForNode::Id(id));
         }
-        Ok(IdForNode::Reserved(ReservedId::new(ids, id)?))
+        let mut set = ids.try_clone()?;
+        set.insert(id)?;
+        Ok(IdForNode::Reserved(id, set))
     }
 
     /// Adds the id, if there is one, to a node's set. It is never refused where it was reserved for this set, nor where the set has
@@ -43,42 +45,14 @@ impl IdForNode {
         match self {
             IdForNode::Nothing => Ok(()),
             IdForNode::Id(id) => ids.insert(id),
-            IdForNode::Reserved(reserved) => insert_reserved(ids, reserved),
+            IdForNode::Reserved(id, set) => {
+                // An equal item of the same list may have brought the id.
+                if ids.has_room(id) {
+                    return ids.insert(id);
+                }
+                *ids = set;
+                Ok(())
+            }
         }
     }
-}
-
-/// An id, and the set that a node has with it.
-#[derive(Drop)]
-pub(crate) struct ReservedId {
-    pub(crate) id: MatchId,
-    pub(crate) set: DenseHashSet,
-}
-
-impl ReservedId {
-    /// Copies a node's set, and adds the id there.
-    pub(crate) fn new(ids: &DenseHashSet, id: MatchId) -> Result<ReservedId, AllocError>
-        ensures same { IfOk result (λ reserved. reserved.id ≡ id) }
-        ensures set { IfOk result (λ reserved. reserved.set ≡ with_id ids.now id) }
-    {
-        let mut set = ids.try_clone()?;
-        set.insert(id)?;
-        Ok(ReservedId { id, set })
-    }
-}
-
-/// Adds an id that was reserved for a node's set. It is never refused.
-fn insert_reserved(ids: &mut DenseHashSet, reserved: ReservedId) -> Result<(), AllocError>
-    requires { reserved.set ≡ with_id ids.old reserved.id }
-    ensures added { OnOk result (ids.new ≡ with_id ids.old reserved.id) }
-    ensures unchanged { OnErr result (ids.new ≡ ids.old) }
-    ensures no_memory { IsOk result }
-{
-    let ReservedId { id, set } = reserved;
-    // An equal item of the same list may have brought the id.
-    if ids.has_room(id) {
-        return ids.insert(id);
-    }
-    *ids = set;
-    Ok(())
 }

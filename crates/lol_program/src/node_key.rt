@@ -7,8 +7,8 @@ ghost use Rattle.lol_program.specs.Views.{tests_of_compound};
 ghost use Rattle.lol_program.specs.NodeKeys as keys;
 
 use lol_css::{
-    AttrSelectorOperator, Combinator, ComplexSelector, Compound, CssString, NthChild,
-    ParsedCaseSensitivity, SelectorList, SimpleSelector,
+    AttrSelectorOperator, Combinator, ComplexSelector, Compound, CssString, ParsedCaseSensitivity,
+    SelectorList, SimpleSelector,
 };
 use std::hash::{DefaultHasher, Hasher};
 
@@ -122,11 +122,11 @@ fn hash_plain(hasher: &mut DefaultHasher, part: &SimpleSelector)
             hasher.write_u8(operator_byte(*operator));
             hasher.write_u8(case_byte(*case_sensitivity));
         }
-        SimpleSelector::Nth { of_type, nth } => hash_nth(
-            hasher,
-            if *of_type { 4 } else { 3 },
-            *nth,
-        ),
+        SimpleSelector::Nth { of_type, nth } => {
+            hasher.write_u8(if *of_type { 4 } else { 3 });
+            hasher.write_i32(nth.step());
+            hasher.write_i32(nth.offset());
+        }
         SimpleSelector::Negation(_) | SimpleSelector::Is(_) | SimpleSelector::Where(_) => (),
     }
 }
@@ -137,14 +137,6 @@ fn hash_text(hasher: &mut DefaultHasher, kind: u8, text: &CssString)
     hasher.write_u8(kind);
     hasher.write(text.as_str().as_bytes());
     hasher.write_u8(END);
-}
-
-fn hash_nth(hasher: &mut DefaultHasher, kind: u8, nth: NthChild)
-    ensures { hasher.new ≡ keys.progression_hashed (keys.byte_hashed hasher.old kind) nth }
-{
-    hasher.write_u8(kind);
-    hasher.write_i32(nth.step());
-    hasher.write_i32(nth.offset());
 }
 
 fn operator_byte(operator: AttrSelectorOperator) -> u8

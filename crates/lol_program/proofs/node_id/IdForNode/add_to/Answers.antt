@@ -9,7 +9,7 @@ pub returns-in-Id-clause-no_memory : goal.returns-in-Id-clause-no_memory
 returns-in-Id-clause-no_memory c fits =
     c.insert.ensures.no_memory (subst (λ (s : Ids). HasRoom s c.in-Id.id) (set_of-ascending c.args.ids.now) (subst (λ (x : IdForNode). Fits x (ascending c.args.ids.now)) c.in-Id.is fits))
 
-pub insert_reserved-requires : goal.insert_reserved-requires
-insert_reserved-requires c =
+pub returns-else-has_room-clause-added : goal.returns-else-has_room-clause-added
+returns-else-has_room-clause-added c =
     let fits = subst (λ (x : IdForNode). IsReserved x → Fits x (ascending c.args.ids.now)) c.in-Reserved.is c.requires tt in
-    fits ∙ ap (λ (s : Ids). with_id s c.in-Reserved.reserved.id) (set_of-ascending c.args.ids.now)
+    rw c.in-Reserved.is (fits ∙ ap (λ (s : Ids). with_id s c.in-Reserved.id) (set_of-ascending c.args.ids.now))

@@ -1,4 +1,4 @@
-use Rattle.std.proofs.Common.{sym, ap, subst, ◌∙◌}
+use Rattle.std.proofs.Common.{◌≡◌, rules, sym, ap, subst, ◌∙◌}
 use Rattle.lol_memory.specs.Ids.{Ids, HasRoom, with_id}
 use Rattle.lol_program.specs.IdSetLaws.{set_of-ascending}
 use Rattle.lol_program.proofs.node_id.IdForNode.reserve.Goals as goal
@@ -8,5 +8,5 @@ returns-then-has_room-clause-fits c = subst (λ (s : Ids). HasRoom s c.args.id) 
 
 pub returns-clause-fits : goal.returns-clause-fits
 returns-clause-fits c =
-    c.in_ok-new.ensures.set ∙ ap (with_id c.args.ids.now) (sym c.in_ok-new.ensures.same)
-    ∙ ap (λ (s : Ids). with_id s c.in_ok-new.field-0.id) (sym (set_of-ascending c.args.ids.now))
+    let set_is : c.insert.new.self ≡ with_id c.args.ids.now c.args.id = search rules in
+    set_is ∙ ap (λ (s : Ids). with_id s c.args.id) (sym (set_of-ascending c.args.ids.now))
