@@ -44,43 +44,30 @@ impl Compilable for Test {
     /// The compiled test, into which names and operands move. A comparison's name is kept in ASCII lower case, and that of a test that an
     /// attribute is there as it is, so that with a capital in it no attribute has it. `~=`, `^=`, `$=` and `*=` with an empty operand become
     /// a test of attributes that no element passes.
+    #[cycle(compiling)]
     fn compile(
         self,
         alloc: Global,
         enable_nth_of_type: &mut bool,
     ) -> Result<CompiledTest, AllocError> {
-        compile_test(alloc, self, enable_nth_of_type)
-    }
-}
-
-#[cycle(compiling)]
-fn compile_test(
-    alloc: Global,
-    test: Test,
-    enable_nth_of_type: &mut bool,
-) -> Result<CompiledTest, AllocError>
-    ensures test { IfOk result (λ compiled. IsCompiledTest compiled (test_shown test)) }
-    ensures keys { IfOk result (λ compiled. compiled_key_test compiled ≡ key_test (test_shown test)) }
-    ensures flag { OnOk result (enable_nth_of_type.new ≡ (enable_nth_of_type.old || test_has_type (test_shown test))) }
-    ensures stays { IsTrue enable_nth_of_type.old → IsTrue enable_nth_of_type.new }
-{
-    match test {
-        Test::Name(expr) => Ok(CompiledTest::Name(CompiledLocalNameExpr {
-            test: compile_name(expr, enable_nth_of_type),
-        })),
-        Test::Attribute(expr) => Ok(CompiledTest::Attribute(CompiledAttributeExpr {
-            test: compile_attribute(expr),
-        })),
-        Test::NoneOf(predicates) => Ok(CompiledTest::NoneOf(compile_predicates(
-            alloc,
-            predicates,
-            enable_nth_of_type,
-        )?)),
-        Test::SomeOf(predicates) => Ok(CompiledTest::SomeOf(compile_predicates(
-            alloc,
-            predicates,
-            enable_nth_of_type,
-        )?)),
+        match self {
+            Test::Name(expr) => Ok(CompiledTest::Name(CompiledLocalNameExpr {
+                test: compile_name(expr, enable_nth_of_type),
+            })),
+            Test::Attribute(expr) => Ok(CompiledTest::Attribute(CompiledAttributeExpr {
+                test: compile_attribute(expr),
+            })),
+            Test::NoneOf(predicates) => Ok(CompiledTest::NoneOf(compile_predicates(
+                alloc,
+                predicates,
+                enable_nth_of_type,
+            )?)),
+            Test::SomeOf(predicates) => Ok(CompiledTest::SomeOf(compile_predicates(
+                alloc,
+                predicates,
+                enable_nth_of_type,
+            )?)),
+        }
     }
 }
 
@@ -102,7 +89,7 @@ pub(crate) fn compile_tests(
 {
     let mut compiled = Vec::with_capacity(alloc, tests.len())?;
     for test in tests {
-        compiled.push_reserved(compile_test(alloc, test, enable_nth_of_type)?);
+        compiled.push_reserved(test.compile(alloc, enable_nth_of_type)?);
     }
     Ok(compiled)
 }

@@ -142,23 +142,11 @@ fn hash_text(hasher: &mut DefaultHasher, kind: u8, text: &CssString)
 fn operator_byte(operator: AttrSelectorOperator) -> u8
     ensures { result ≡ keys.operator_byte operator }
 {
-    match operator {
-        AttrSelectorOperator::Equal => 0,
-        AttrSelectorOperator::Includes => 1,
-        AttrSelectorOperator::DashMatch => 2,
-        AttrSelectorOperator::Prefix => 3,
-        AttrSelectorOperator::Substring => 4,
-        AttrSelectorOperator::Suffix => 5,
-    }
+    operator as u8
 }
 
 fn case_byte(case: ParsedCaseSensitivity) -> u8
     ensures { result ≡ keys.case_byte case }
 {
-    match case {
-        ParsedCaseSensitivity::ExplicitCaseSensitive => 0,
-        ParsedCaseSensitivity::AsciiCaseInsensitive => 1,
-        ParsedCaseSensitivity::CaseSensitive => 2,
-        ParsedCaseSensitivity::AsciiCaseInsensitiveIfInHtmlElementInHtmlDocument => 3,
-    }
+    case as u8
 }

@@ -16,27 +16,27 @@ compile_predicates-returns-clause-predicates t c =
     predicates_compiled c.loop-predicate.compiled.items (map tests_of c.args.predicates.items)
     (completes_all IsCompiledPredicate c.loop-predicate.compiled.items (map tests_of (into_iter_items left)) (map tests_of c.args.predicates.items) (ap (map tests_of) none) c.loop-predicate.invariant.done)
 
-pub compile_test-returns-in_ok-compile_predicates-in-NoneOf-clause-test :
-    goal.compile_test-returns-in_ok-compile_predicates-in-NoneOf-clause-test
-compile_test-returns-in_ok-compile_predicates-in-NoneOf-clause-test t c =
-    none_compiled (test_shown c.args.test) (any_of (map tests_of c.in-NoneOf.predicates.items)) c.in_ok-compile_predicates-in-NoneOf.field-0
+pub TestCompilable::compile-returns-in_ok-compile_predicates-in-NoneOf-clause-test :
+    goal.TestCompilable::compile-returns-in_ok-compile_predicates-in-NoneOf-clause-test
+TestCompilable::compile-returns-in_ok-compile_predicates-in-NoneOf-clause-test t c =
+    none_compiled (test_shown c.args.self) (any_of (map tests_of c.in-NoneOf.predicates.items)) c.in_ok-compile_predicates-in-NoneOf.field-0
     (ap test_shown c.in-NoneOf.is ∙ test_shown-NoneOf c.in-NoneOf.predicates) c.in_ok-compile_predicates-in-NoneOf.ensures.predicates
 
-pub compile_test-returns-in_ok-compile_predicates-in-NoneOf-clause-flag :
-    goal.compile_test-returns-in_ok-compile_predicates-in-NoneOf-clause-flag
-compile_test-returns-in_ok-compile_predicates-in-NoneOf-clause-flag t c =
+pub TestCompilable::compile-returns-in_ok-compile_predicates-in-NoneOf-clause-flag :
+    goal.TestCompilable::compile-returns-in_ok-compile_predicates-in-NoneOf-clause-flag
+TestCompilable::compile-returns-in_ok-compile_predicates-in-NoneOf-clause-flag t c =
     c.in_ok-compile_predicates-in-NoneOf.ensures.flag
     ∙ ap (λ k. c.args.enable_nth_of_type.now || test_has_type k) (sym (ap test_shown c.in-NoneOf.is ∙ test_shown-NoneOf c.in-NoneOf.predicates))
 
-pub compile_test-returns-in_ok-compile_predicates-in-SomeOf-clause-test :
-    goal.compile_test-returns-in_ok-compile_predicates-in-SomeOf-clause-test
-compile_test-returns-in_ok-compile_predicates-in-SomeOf-clause-test t c =
-    some_compiled (test_shown c.args.test) (any_of (map tests_of c.in-SomeOf.predicates.items)) c.in_ok-compile_predicates-in-SomeOf.field-0
+pub TestCompilable::compile-returns-in_ok-compile_predicates-in-SomeOf-clause-test :
+    goal.TestCompilable::compile-returns-in_ok-compile_predicates-in-SomeOf-clause-test
+TestCompilable::compile-returns-in_ok-compile_predicates-in-SomeOf-clause-test t c =
+    some_compiled (test_shown c.args.self) (any_of (map tests_of c.in-SomeOf.predicates.items)) c.in_ok-compile_predicates-in-SomeOf.field-0
     (ap test_shown c.in-SomeOf.is ∙ test_shown-SomeOf c.in-SomeOf.predicates) c.in_ok-compile_predicates-in-SomeOf.ensures.predicates
 
-pub compile_test-returns-in_ok-compile_predicates-in-SomeOf-clause-flag :
-    goal.compile_test-returns-in_ok-compile_predicates-in-SomeOf-clause-flag
-compile_test-returns-in_ok-compile_predicates-in-SomeOf-clause-flag t c =
+pub TestCompilable::compile-returns-in_ok-compile_predicates-in-SomeOf-clause-flag :
+    goal.TestCompilable::compile-returns-in_ok-compile_predicates-in-SomeOf-clause-flag
+TestCompilable::compile-returns-in_ok-compile_predicates-in-SomeOf-clause-flag t c =
     c.in_ok-compile_predicates-in-SomeOf.ensures.flag
     ∙ ap (λ k. c.args.enable_nth_of_type.now || test_has_type k) (sym (ap test_shown c.in-SomeOf.is ∙ test_shown-SomeOf c.in-SomeOf.predicates))
 
