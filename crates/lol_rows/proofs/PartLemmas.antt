@@ -18,7 +18,7 @@ use Rattle.lol_instructions.specs.Tests.{find_attribute, has_value, operator_hol
 use Rattle.lol_base.specs.declared.comparison.AttrSelectorOperator.TheVariants.{Substring}
 use Rattle.lol_instructions.specs.Attributes.{TagAttributes}
 use Rattle.lol_instructions.specs.ValueParts.{last_stands, part_is_one}
-use Rattle.lol_instructions.specs.Keys.{AttributeKey, ById, ByClass, ByPart, ByAttribute, KeyTest, IsAny, IsNamed, HasKey, IsOfAttributes, SaysNothing, HasItsLength, counts_case, last_part, part_length, part_or_name, parts_of, first_of, first_read, read_id, read_class, read_part, read_attribute}
+use Rattle.lol_instructions.specs.Keys.{AttributeKey, ById, ByClass, ByPart, ByAttribute, KeyTest, IsAny, IsNamed, HasKey, IsOfAttributes, SaysNothing, HasItsLength, counts_case, last_part, part_length, part_or_name, parts_of}
 use Rattle.lol_instructions.specs.Compiled.{tests_in}
 use Rattle.lol_instructions.specs.CompiledKeys.{attribute_expr_key_test, compiled_key_test, is_key_there, lacks_key, name_expr_key_test, operands_key}
 use Rattle.lol_instructions.specs.declared.attribute_matcher.AttrExprOperands.{AttrExprOperands}
@@ -29,6 +29,7 @@ use Rattle.lol_instructions.specs.declared.compiled_expr.AttributeExprTest.TheVa
 use Rattle.lol_instructions.specs.declared.compiled_predicate.CompiledTest.{CompiledTest, Name, Attribute as OfAttribute, NoneOf', SomeOf'}
 use Rattle.lol_instructions.specs.declared.instruction.Instruction.{Instruction}
 use Rattle.lol_rows.specs.KeyHashes.{after_attribute, after_name, hash_after, hash_of_part}
+use Rattle.lol_rows.specs.KeyLaws.{key_of_one}
 use Rattle.lol_rows.specs.TagHashes.{all_part_hashes, pair_hashes, part_hashes, AreAmong, HoldsBothParts, HoldsParts}
 use Rattle.lol_rows.specs.Rows.{AreRowsOf, HoldEach, is_left_by_keys, is_left_by_name, keys_of, parted_after, parted_of}
 use Rattle.lol_rows.specs.declared.row_kind.RowKind.TheVariants.{Pairs}
@@ -81,68 +82,13 @@ test_sized (OfAttribute expr) = attribute_sized expr.test
 test_sized (NoneOf' shape row) = tt
 test_sized (SomeOf' shape row) = tt
 
--- what is read of a sized test is sized
-abbrev ReadsSized : (KeyTest → Option AttributeKey) → Type 0
-ReadsSized read = (test : KeyTest) (key : AttributeKey) → Sized test → read test ≡ Some key → HasItsLength key
-
-first_sized : (read : KeyTest → Option AttributeKey) → ReadsSized read → (tests : List CompiledTest) (key : AttributeKey) → first_read read (map compiled_key_test tests) ≡ Some key → HasItsLength key
-first_sized read sized [] key h = cc
-first_sized read sized (test ∷ tests) key h = by_first (read (compiled_key_test test)) refl h (first_sized read sized tests key)
-  where
-    by_first : (o : Option AttributeKey) → read (compiled_key_test test) ≡ o → first_of o (first_read read (map compiled_key_test tests)) ≡ Some key → (first_read read (map compiled_key_test tests) ≡ Some key → HasItsLength key) → HasItsLength key
-    by_first None is found later = later found
-    by_first (Some k) is found later = sized (compiled_key_test test) key (test_sized test) (is ∙ found)
-
-first_of_sized : (one other : Option AttributeKey) (key : AttributeKey) → first_of one other ≡ Some key → (one ≡ Some key → HasItsLength key) → (other ≡ Some key → HasItsLength key) → HasItsLength key
-first_of_sized None other key h first second = second h
-first_of_sized (Some k) other key h first second = first h
-
-id_sized : ReadsSized read_id
-id_sized (HasKey (ById id)) key sized h = subst HasItsLength (some_is h) sized
-id_sized (HasKey (ByClass name)) key sized h = cc
-id_sized (HasKey (ByPart name part)) key sized h = cc
-id_sized (HasKey (ByAttribute name)) key sized h = cc
-id_sized IsAny key sized h = cc
-id_sized (IsNamed name) key sized h = cc
-id_sized IsOfAttributes key sized h = cc
-id_sized SaysNothing key sized h = cc
-
-class_sized : ReadsSized read_class
-class_sized (HasKey (ById id)) key sized h = cc
-class_sized (HasKey (ByClass name)) key sized h = subst HasItsLength (some_is h) sized
-class_sized (HasKey (ByPart name part)) key sized h = cc
-class_sized (HasKey (ByAttribute name)) key sized h = cc
-class_sized IsAny key sized h = cc
-class_sized (IsNamed name) key sized h = cc
-class_sized IsOfAttributes key sized h = cc
-class_sized SaysNothing key sized h = cc
-
-read_part_sized : ReadsSized read_part
-read_part_sized (HasKey (ById id)) key sized h = cc
-read_part_sized (HasKey (ByClass name)) key sized h = cc
-read_part_sized (HasKey (ByPart name part)) key sized h = subst HasItsLength (some_is h) sized
-read_part_sized (HasKey (ByAttribute name)) key sized h = cc
-read_part_sized IsAny key sized h = cc
-read_part_sized (IsNamed name) key sized h = cc
-read_part_sized IsOfAttributes key sized h = cc
-read_part_sized SaysNothing key sized h = cc
-
-read_attribute_sized : ReadsSized read_attribute
-read_attribute_sized (HasKey (ById id)) key sized h = cc
-read_attribute_sized (HasKey (ByClass name)) key sized h = cc
-read_attribute_sized (HasKey (ByPart name part)) key sized h = cc
-read_attribute_sized (HasKey (ByAttribute name)) key sized h = subst HasItsLength (some_is h) sized
-read_attribute_sized IsAny key sized h = cc
-read_attribute_sized (IsNamed name) key sized h = cc
-read_attribute_sized IsOfAttributes key sized h = cc
-read_attribute_sized SaysNothing key sized h = cc
+among_sized : (tests : List CompiledTest) (key : AttributeKey) → Among (map compiled_key_test tests) (HasKey key) → HasItsLength key
+among_sized [] key one = absurd one
+among_sized (test ∷ tests) key (inl is) = subst Sized is (test_sized test)
+among_sized (test ∷ tests) key (inr one) = among_sized tests key one
 
 key_sized : (i : Instruction) (key : AttributeKey) → (keys_of i).attribute ≡ Some key → HasItsLength key
-key_sized i key h =
-    let tests = tests_in i.predicate in
-    first_of_sized _ _ key h (first_sized read_id id_sized tests key)
-    (λ h'. first_of_sized _ _ key h' (first_sized read_class class_sized tests key)
-    (λ h''. first_of_sized _ _ key h'' (first_sized read_part read_part_sized tests key) (first_sized read_attribute read_attribute_sized tests key)))
+key_sized i key h = among_sized (tests_in i.predicate) key (key_of_one (map compiled_key_test (tests_in i.predicate)) key h)
 
 -- 2. A part that is there is one of the parts of an attribute of that name
 

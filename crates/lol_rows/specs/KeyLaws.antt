@@ -20,7 +20,7 @@ use Rattle.lol_instructions.specs.Compounds.{Test, OfName, OfAttributes, NoneOf,
 use Rattle.lol_instructions.specs.Attributes.{TagAttributes, tag_attributes, value_in}
 use Rattle.lol_instructions.specs.declared.name_value.NameValue.{NameValue}
 use Rattle.lol_instructions.specs.declared.name_value.NameValue.TheVariants.{True, False, Open}
-use Rattle.lol_instructions.specs.Keys.{AttributeKey, ById, ByClass, ByPart, ByAttribute, part_length, last_part, counts_case, part_or_name, parts_of, KeyTest, HasKey, IsOfAttributes, attribute_key_test, key_test, key_tests, first_of, first_read, read_name, read_id, read_class, read_part, read_attribute, name_key, attribute_key, is_of_attributes, is_of_any, are_of_attributes, without_name, opens_where_named, unless_named, one_key, both_keys, is_another_name, has_key, lacks, AreKeysOf, no_keys, same_key, words_of, keys_seen, is_key_of, HasItsLength}
+use Rattle.lol_instructions.specs.Keys.{AttributeKey, ById, ByClass, ByPart, ByAttribute, part_length, last_part, counts_case, part_or_name, parts_of, KeyTest, IsAny, IsNamed, HasKey, IsOfAttributes, SaysNothing, attribute_key_test, key_test, key_tests, first_of, first_read, read_name, read_id, read_class, read_part, read_attribute, name_key, attribute_key, is_of_attributes, is_of_any, are_of_attributes, without_name, opens_where_named, unless_named, one_key, both_keys, is_another_name, has_key, lacks, AreKeysOf, no_keys, same_key, words_of, keys_seen, is_key_of, HasItsLength}
 use Rattle.lol_instructions.specs.ValueParts.{last_stands, part_is_one, parts_stand}
 use Rattle.lol_instructions.specs.CompiledKeys.{is_key_there}
 
@@ -34,14 +34,67 @@ KeysAreOfTags = (key : AttributeKey) (e : Element) → HasItsLength key → has_
 
 -- 1. A key that was read comes from a test that must hold
 
-module _ {K : Type 0} (read : KeyTest → Option K) (P : K → Type 0) (e : Element) (each : (test : Test) (key : K) → read (key_test test) ≡ Some key → holds test e ≡ true → P key) where
-  read_right : (c : Compound) (key : K) → first_read read (key_tests c) ≡ Some key → all_hold c e ≡ true → P key
-  read_right NoTests key h all = cc
-  read_right (AndTest test tests) key h all = by_first (read (key_test test)) refl h (λ found. read_right tests key found (and_parts (holds test e) (all_hold tests e) all).1)
-    where
-      by_first : (o : Option K) → read (key_test test) ≡ o → first_of o (first_read read (key_tests tests)) ≡ Some key → (first_read read (key_tests tests) ≡ Some key → P key) → P key
-      by_first None is found later = later found
-      by_first (Some k) is found later = each test key (is ∙ found) (and_parts (holds test e) (all_hold tests e) all).0
+-- what a reader reads is the test's key
+abbrev IsReader : (KeyTest → Option AttributeKey) → Type 0
+IsReader read = (test : KeyTest) (key : AttributeKey) → read test ≡ Some key → test ≡ HasKey key
+
+id_read : IsReader read_id
+id_read (HasKey (ById id)) key h = ap HasKey (some_is h)
+id_read (HasKey (ByClass name)) key h = cc
+id_read (HasKey (ByPart name part)) key h = cc
+id_read (HasKey (ByAttribute name)) key h = cc
+id_read IsAny key h = cc
+id_read (IsNamed name) key h = cc
+id_read IsOfAttributes key h = cc
+id_read SaysNothing key h = cc
+
+class_read : IsReader read_class
+class_read (HasKey (ById id)) key h = cc
+class_read (HasKey (ByClass name)) key h = ap HasKey (some_is h)
+class_read (HasKey (ByPart name part)) key h = cc
+class_read (HasKey (ByAttribute name)) key h = cc
+class_read IsAny key h = cc
+class_read (IsNamed name) key h = cc
+class_read IsOfAttributes key h = cc
+class_read SaysNothing key h = cc
+
+part_read : IsReader read_part
+part_read (HasKey (ById id)) key h = cc
+part_read (HasKey (ByClass name)) key h = cc
+part_read (HasKey (ByPart name part)) key h = ap HasKey (some_is h)
+part_read (HasKey (ByAttribute name)) key h = cc
+part_read IsAny key h = cc
+part_read (IsNamed name) key h = cc
+part_read IsOfAttributes key h = cc
+part_read SaysNothing key h = cc
+
+attribute_read : IsReader read_attribute
+attribute_read (HasKey (ById id)) key h = cc
+attribute_read (HasKey (ByClass name)) key h = cc
+attribute_read (HasKey (ByPart name part)) key h = cc
+attribute_read (HasKey (ByAttribute name)) key h = ap HasKey (some_is h)
+attribute_read IsAny key h = cc
+attribute_read (IsNamed name) key h = cc
+attribute_read IsOfAttributes key h = cc
+attribute_read SaysNothing key h = cc
+
+by_first : {K : Type 0} (one other : Option K) (key : K) (P : Type 0) → first_of one other ≡ Some key → (one ≡ Some key → P) → (other ≡ Some key → P) → P
+by_first None other key P h first second = second h
+by_first (Some k) other key P h first second = first h
+
+first_among : (read : KeyTest → Option AttributeKey) → IsReader read → (tests : List KeyTest) (key : AttributeKey) → first_read read tests ≡ Some key → Among tests (HasKey key)
+first_among read reads [] key h = cc
+first_among read reads (test ∷ tests) key h = by_first (read test) (first_read read tests) key _ h (λ here. inl (reads test key here)) (λ later. inr (first_among read reads tests key later))
+
+-- The key of some tests is that of one of them.
+pub key_of_one : (tests : List KeyTest) (key : AttributeKey) → attribute_key tests ≡ Some key → Among tests (HasKey key)
+key_of_one tests key h =
+    by_first (first_read read_id tests) _ key _ h (first_among read_id id_read tests key)
+    (λ h'. by_first (first_read read_class tests) _ key _ h' (first_among read_class class_read tests key)
+    (λ h''. by_first (first_read read_part tests) _ key _ h'' (first_among read_part part_read tests key) (first_among read_attribute attribute_read tests key)))
+
+same_HasKey : {a b : AttributeKey} → HasKey a ≡ HasKey b → a ≡ b
+same_HasKey h = cc
 
 -- an attribute that a value is compared with is there
 there_if_compared : (o : Option (List ℕ)) (test : List ℕ → Bool) → has_value o test ≡ true → has_value o (λ value. true) ≡ true
@@ -87,93 +140,36 @@ by_bytes value (b ∷ part) long stands = stands
 part_passes : (operator : AttrSelectorOperator) (value operand part : List ℕ) → last_part operand ≡ Some part → compares operator value operand ≡ true → operator_holds Substring value part ≡ true
 part_passes operator value operand part last passes = by_bytes value part (last_stands operand part last).1 (parts_stand operator value operand part passes (last_stands operand part last).0)
 
-id_right : (e : Element) (test : Test) (key : AttributeKey) → read_id (key_test test) ≡ Some key → holds test e ≡ true → has_key key e ≡ true
-id_right e (OfName AnyName) key h = cc
-id_right e (OfName NoName) key h = cc
-id_right e (OfName (HasName name)) key h = cc
-id_right e (OfName (IsNthChild nth)) key h = cc
-id_right e (OfName (IsNthOfType nth)) key h = cc
-id_right e (OfAttributes (HasId id)) key h = λ all. subst (λ k. has_key k e ≡ true) (some_is h) all
-id_right e (OfAttributes (HasClass name)) key h = cc
-id_right e (OfAttributes (HasAttribute name)) key h = cc
-id_right e (OfAttributes (Compares name operator operand case)) key h =
-    by_comparison name operator operand case (λ k. read_id k ≡ Some key → holds (OfAttributes (Compares name operator operand case)) e ≡ true → has_key key e ≡ true)
-    (λ found all. cc) (λ found all. cc) (λ part counts last found all. cc) h
-id_right e (NoneOf _) key h = cc
-id_right e (SomeOf _) key h = cc
-
-class_right : (e : Element) (test : Test) (key : AttributeKey) → read_class (key_test test) ≡ Some key → holds test e ≡ true → has_key key e ≡ true
-class_right e (OfName AnyName) key h = cc
-class_right e (OfName NoName) key h = cc
-class_right e (OfName (HasName name)) key h = cc
-class_right e (OfName (IsNthChild nth)) key h = cc
-class_right e (OfName (IsNthOfType nth)) key h = cc
-class_right e (OfAttributes (HasId id)) key h = cc
-class_right e (OfAttributes (HasClass name)) key h = λ all. subst (λ k. has_key k e ≡ true) (some_is h) all
-class_right e (OfAttributes (HasAttribute name)) key h = cc
-class_right e (OfAttributes (Compares name operator operand case)) key h =
-    by_comparison name operator operand case (λ k. read_class k ≡ Some key → holds (OfAttributes (Compares name operator operand case)) e ≡ true → has_key key e ≡ true)
-    (λ found all. cc) (λ found all. cc) (λ part counts last found all. cc) h
-class_right e (NoneOf _) key h = cc
-class_right e (SomeOf _) key h = cc
-
-part_right : (e : Element) (test : Test) (key : AttributeKey) → read_part (key_test test) ≡ Some key → holds test e ≡ true → has_key key e ≡ true
-part_right e (OfName AnyName) key h = cc
-part_right e (OfName NoName) key h = cc
-part_right e (OfName (HasName name)) key h = cc
-part_right e (OfName (IsNthChild nth)) key h = cc
-part_right e (OfName (IsNthOfType nth)) key h = cc
-part_right e (OfAttributes (HasId id)) key h = cc
-part_right e (OfAttributes (HasClass name)) key h = cc
-part_right e (OfAttributes (HasAttribute name)) key h = cc
-part_right e (OfAttributes (Compares name operator operand case)) key h =
-    by_comparison name operator operand case (λ k. read_part k ≡ Some key → holds (OfAttributes (Compares name operator operand case)) e ≡ true → has_key key e ≡ true)
-    (λ found all. cc) (λ found all. cc)
-    (λ part counts last found all. subst (λ k. has_key k e ≡ true) (some_is found)
-    (has_too (attribute_value (lowercased name) e.tag) _ _ (λ value passes. part_passes operator value operand part last passes)
-    (with_case case e.tag.namespace operator (attribute_value (lowercased name) e.tag) operand counts all))) h
-part_right e (NoneOf _) key h = cc
-part_right e (SomeOf _) key h = cc
-
-attribute_right : (e : Element) (test : Test) (key : AttributeKey) → read_attribute (key_test test) ≡ Some key → holds test e ≡ true → has_key key e ≡ true
-attribute_right e (OfName AnyName) key h = cc
-attribute_right e (OfName NoName) key h = cc
-attribute_right e (OfName (HasName name)) key h = cc
-attribute_right e (OfName (IsNthChild nth)) key h = cc
-attribute_right e (OfName (IsNthOfType nth)) key h = cc
-attribute_right e (OfAttributes (HasId id)) key h = cc
-attribute_right e (OfAttributes (HasClass name)) key h = cc
-attribute_right e (OfAttributes (HasAttribute name)) key h = λ all. subst (λ k. has_key k e ≡ true) (some_is h) all
-attribute_right e (OfAttributes (Compares name operator operand case)) key h =
-    by_comparison name operator operand case (λ k. read_attribute k ≡ Some key → holds (OfAttributes (Compares name operator operand case)) e ≡ true → has_key key e ≡ true)
+test_right : (e : Element) (test : Test) (key : AttributeKey) → key_test test ≡ HasKey key → holds test e ≡ true → has_key key e ≡ true
+test_right e (OfName AnyName) key is = cc
+test_right e (OfName NoName) key is = cc
+test_right e (OfName (HasName name)) key is = cc
+test_right e (OfName (IsNthChild nth)) key is = cc
+test_right e (OfName (IsNthOfType nth)) key is = cc
+test_right e (OfAttributes (HasId id)) key is = λ all. subst (λ k. has_key k e ≡ true) (same_HasKey is) all
+test_right e (OfAttributes (HasClass name)) key is = λ all. subst (λ k. has_key k e ≡ true) (same_HasKey is) all
+test_right e (OfAttributes (HasAttribute name)) key is = λ all. subst (λ k. has_key k e ≡ true) (same_HasKey is) all
+test_right e (OfAttributes (Compares name operator operand case)) key is =
+    let value = attribute_value (lowercased name) e.tag in
+    by_comparison name operator operand case (λ k. k ≡ HasKey key → holds (OfAttributes (Compares name operator operand case)) e ≡ true → has_key key e ≡ true)
     (λ found all. cc)
-    (λ found all. subst (λ k. has_key k e ≡ true) (some_is found)
-    (there_if_compared (attribute_value (lowercased name) e.tag) (λ value. compares operator (compared (ignores_case case e.tag.namespace) value) (compared (ignores_case case e.tag.namespace) operand)) all))
-    (λ part counts last found all. cc) h
-attribute_right e (NoneOf _) key h = cc
-attribute_right e (SomeOf _) key h = cc
+    (λ found all. subst (λ k. has_key k e ≡ true) (same_HasKey found) (there_if_compared value (λ v. compares operator (compared (ignores_case case e.tag.namespace) v) (compared (ignores_case case e.tag.namespace) operand)) all))
+    (λ part counts last found all. subst (λ k. has_key k e ≡ true) (same_HasKey found)
+    (has_too value _ _ (λ v passes. part_passes operator v operand part last passes) (with_case case e.tag.namespace operator value operand counts all))) is
+test_right e (NoneOf _) key is = cc
+test_right e (SomeOf _) key is = cc
 
-key_right : (e : Element) (c : Compound) (key : AttributeKey) → attribute_key (key_tests c) ≡ Some key → all_hold c e ≡ true → has_key key e ≡ true
-key_right e c key h all = by_id (first_read read_id (key_tests c)) refl h
-  where
-    by_part : (o : Option AttributeKey) → first_read read_part (key_tests c) ≡ o → first_of o (first_read read_attribute (key_tests c)) ≡ Some key → has_key key e ≡ true
-    by_part None is found = read_right read_attribute (λ k. has_key k e ≡ true) e (attribute_right e) c key found all
-    by_part (Some k) is found = read_right read_part (λ k. has_key k e ≡ true) e (part_right e) c key (is ∙ found) all
-
-    by_class : (o : Option AttributeKey) → first_read read_class (key_tests c) ≡ o → first_of o (first_of (first_read read_part (key_tests c)) (first_read read_attribute (key_tests c))) ≡ Some key → has_key key e ≡ true
-    by_class None is found = by_part (first_read read_part (key_tests c)) refl found
-    by_class (Some k) is found = read_right read_class (λ k. has_key k e ≡ true) e (class_right e) c key (is ∙ found) all
-
-    by_id : (o : Option AttributeKey) → first_read read_id (key_tests c) ≡ o → first_of o (first_of (first_read read_class (key_tests c)) (first_of (first_read read_part (key_tests c)) (first_read read_attribute (key_tests c)))) ≡ Some key → has_key key e ≡ true
-    by_id None is found = by_class (first_read read_class (key_tests c)) refl found
-    by_id (Some k) is found = read_right read_id (λ k. has_key k e ≡ true) e (id_right e) c key (is ∙ found) all
+key_right : (e : Element) (c : Compound) (key : AttributeKey) → Among (key_tests c) (HasKey key) → all_hold c e ≡ true → has_key key e ≡ true
+key_right e NoTests key one all = absurd one
+key_right e (AndTest test tests) key (inl is) all = test_right e test key is (and_parts (holds test e) (all_hold tests e) all).0
+key_right e (AndTest test tests) key (inr one) all = key_right e tests key one (and_parts (holds test e) (all_hold tests e) all).1
 
 pub lacking_fails : (e : Element) (c : Compound) → lacks (attribute_key (key_tests c)) e ≡ true → all_hold c e ≡ false
 lacking_fails e c h = by_key (attribute_key (key_tests c)) refl h
   where
     by_key : (o : Option AttributeKey) → attribute_key (key_tests c) ≡ o → lacks o e ≡ true → all_hold c e ≡ false
     by_key None is lack = cc
-    by_key (Some key) is lack = not_true (all_hold c e) (λ all. let has = key_right e c key is all in cc)
+    by_key (Some key) is lack = not_true (all_hold c e) (λ all. let has = key_right e c key (key_of_one (key_tests c) key is) all in cc)
 
 -- 2. Another name makes the value by names false
 

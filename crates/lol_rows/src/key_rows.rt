@@ -4,9 +4,8 @@ ghost use Rattle.std.specs.Prelude.{◌≡◌, ◌++◌, ◌+◌, ◌≤◌, ℕ
 ghost use Rattle.std.specs.Bool.{OnTrue};
 ghost use Rattle.std.specs.Vec.{vec_capacity};
 ghost use Rattle.std.specs.Option.{option_copied};
-ghost use Rattle.lol_rows.specs.KeyTables.{IsTableOf};
 ghost use Rattle.lol_rows.specs.declared.row_kind.RowKind.{RowKind};
-ghost use Rattle.lol_rows.specs.Rows.{hash_by, leaves, passing, AreAlikeAt, AreRowsBy};
+ghost use Rattle.lol_rows.specs.Rows.{leaves, passing, AreAlikeAt, AreRowsBy};
 ghost use Rattle.lol_rows.specs.KeyRows.{CanFind, AreBesideAlike, AreOfOneHash, address_of, left_of_row};
 
 use crate::key_table::{Entry, KeyTable};
@@ -32,8 +31,12 @@ impl KeyRows {
     ) -> Result<Self, AllocError>
         ensures { IfOk result (AreRowsBy kind instructions.now) }
     {
-        let table = table_of(alloc, kind, instructions)?;
-        let shared = shared_hashes(alloc, kind, instructions, table.entries())?;
+        let mut hashes = Vec::with_capacity(alloc, instructions.len())?;
+        for instruction in instructions {
+            hashes.push_reserved(kind.hash(instruction));
+        }
+        let table = KeyTable::of(alloc, hashes)?;
+        let shared = shared_hashes(alloc, kind, instructions, &table.entries)?;
         Ok(KeyRows {
             table,
             shared: SortedHashes::of(shared),
@@ -115,20 +118,6 @@ impl KeyRows {
         }
         Ok(())
     }
-}
-
-fn table_of(
-    alloc: Global,
-    kind: RowKind,
-    instructions: &[Instruction],
-) -> Result<KeyTable, AllocError>
-    ensures { IfOk result (IsTableOf (map (hash_by kind) instructions.now)) }
-{
-    let mut hashes = Vec::with_capacity(alloc, instructions.len())?;
-    for instruction in instructions {
-        hashes.push_reserved(kind.hash(instruction));
-    }
-    KeyTable::of(alloc, hashes)
 }
 
 /// The hashes of entries that stand side by side and whose instructions may have several keys.

@@ -17,7 +17,8 @@ pub(crate) struct Entry {
 /// Which addresses have a hash: the addresses are the indices of a list of hashes, from 0. It takes 8 bytes for each.
 #[derive(Debug, Drop)]
 pub(crate) struct KeyTable {
-    entries: Vec<Entry>,
+    // In the order of their hashes, and of their addresses where these are the same.
+    pub(crate) entries: Vec<Entry>,
 }
 
 impl KeyTable {
@@ -41,14 +42,6 @@ impl KeyTable {
         drop(hashes);
         entries.sort_unstable();
         Ok(KeyTable { entries })
-    }
-
-    /// All entries, in the order of their hashes, and of their addresses where these are the same.
-    #[inline]
-    pub(crate) fn entries(&self) -> &[Entry]
-        ensures { result.now ≡ self.now.entries.items }
-    {
-        &self.entries
     }
 
     /// The entries of the addresses from `start` up to `end` that have a hash, in the order of their addresses. It takes a logarithm of the

@@ -2,13 +2,11 @@
 
 ghost use Rattle.std.specs.Prelude.{◌≡◌};
 ghost use Rattle.std.specs.Bool.{OnTrue};
-ghost use Rattle.std.specs.Option.{option_copied, option_map};
+ghost use Rattle.std.specs.Option.{option_map};
 ghost use Rattle.lol_instructions.specs.CompiledKeys.{key_shown};
-ghost use Rattle.lol_rows.specs.KeyHashes.{name_shown};
 ghost use Rattle.lol_rows.specs.Rows.{hash_by, keys_by};
 
 use crate::key_hashes::{after_name, name_hash, pair_hash};
-use lol_base::LocalName;
 use lol_instructions::{Instruction, KeyBytes};
 
 /// What of their keys instructions are looked up by.
@@ -38,23 +36,13 @@ impl RowKind {
         ensures { OnTrue result (keys_by self one.now ≡ keys_by self other.now) }
     {
         let (one, other) = (&one.predicate, &other.predicate);
-        let named_alike = is_same_name(one.name_key(), other.name_key());
+        let named_alike = one.name_key() == other.name_key();
         match self {
             RowKind::Names => named_alike,
             RowKind::Pairs => {
                 named_alike && is_same_key(one.attribute_key(), other.attribute_key())
             }
         }
-    }
-}
-
-fn is_same_name(one: Option<&LocalName<'_>>, other: Option<&LocalName<'_>>) -> bool
-    ensures { OnTrue result (name_shown (option_copied one.entry) ≡ name_shown (option_copied other.entry)) }
-{
-    match (one, other) {
-        (Some(one), Some(other)) => one == other,
-        (None, None) => true,
-        _ => false,
     }
 }
 

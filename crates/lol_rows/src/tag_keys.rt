@@ -82,11 +82,6 @@ pub fn is_left(
 ) -> bool
     ensures { result ≡ leaves_seen local_name.now.lowercased (option_copied attributes.entry) instruction.now }
 {
-    if instruction.predicate.has_other_name(local_name) {
-        return false;
-    }
-    match attributes {
-        Some(matcher) => !instruction.predicate.lacks_key(matcher),
-        None => true,
-    }
+    !instruction.predicate.has_other_name(local_name)
+        && attributes.is_none_or(|matcher| !instruction.predicate.lacks_key(matcher))
 }

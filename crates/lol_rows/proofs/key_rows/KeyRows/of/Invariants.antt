@@ -1,7 +1,7 @@
 use Rattle.std.proofs.Common.{◌≡◌, ◌≤◌, length, map, take}
 use Rattle.std.specs.Vec.{vec_capacity}
 use Rattle.lol_rows.specs.Rows.{hash_by}
-use Rattle.lol_rows.proofs.key_rows.table_of.Given as goal
+use Rattle.lol_rows.proofs.key_rows.KeyRows.of.Given as goal
 
 -- the instructions before have their hashes, and there is room for all
 abbrev pub invariant-loop-instruction : goal.invariant-loop-instruction
