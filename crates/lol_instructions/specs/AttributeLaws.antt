@@ -1,13 +1,11 @@
 -- What a matcher's tests say of an element: the tests of its tag.
-use Rattle.std.specs.Prelude.{◌≡◌, ℕ, Bool, true, false, not, ◌&&◌, List, [], ◌∷◌, Option, Some, None, codes}
+use Rattle.std.specs.Prelude.{◌≡◌, ℕ, Bool, true, false, not, ◌&&◌, List, [], ◌∷◌, Option, Some, None}
 use Rattle.std.proofs.Common.{refl, sym, ap, ◌∙◌}
-use Rattle.std.specs.Str.{bytes_eq}
 use Rattle.lol_base.specs.Names.{lowercased}
 use Rattle.lol_base.specs.declared.comparison.AttrSelectorOperator.{AttrSelectorOperator}
-use Rattle.lol_base.specs.declared.comparison.AttrSelectorOperator.TheVariants.{Includes}
 use Rattle.lol_base.specs.declared.comparison.ParsedCaseSensitivity.{ParsedCaseSensitivity}
-use Rattle.lol_instructions.specs.Tests.{Element, HasId, HasClass, HasAttribute, Compares, attribute_holds, has_value, operator_holds, compared, needs_operand, is_empty_text, ignores_case, attribute_value}
-use Rattle.lol_instructions.specs.Attributes.{TagAttributes, tag_attributes, value_in, operands_hold}
+use Rattle.lol_instructions.specs.Tests.{Element, Compares, attribute_holds, has_value, operator_holds, compared, needs_operand, is_empty_text, ignores_case, attribute_value}
+use Rattle.lol_instructions.specs.Attributes.{TagAttributes, tag_attributes, operands_hold}
 use Rattle.lol_instructions.specs.declared.attribute_matcher.AttrExprOperands.{AttrExprOperands}
 
 is_empty-compared : (ignoring : Bool) (bytes : List ℕ) → is_empty_text (compared ignoring bytes) ≡ is_empty_text bytes
@@ -23,15 +21,6 @@ has_value-false None = refl
 has_value-false (Some v) = refl
 
 module _ (seen : TagAttributes) (e : Element) (same : seen ≡ tag_attributes e.tag) where
-  pub holds-HasId : (id : List ℕ) → has_value (value_in (codes "id") seen) (λ value. bytes_eq value id) ≡ attribute_holds (HasId id) e
-  holds-HasId id = ap (λ (s : TagAttributes). has_value (value_in (codes "id") s) (λ value. bytes_eq value id)) same
-
-  pub holds-HasClass : (name : List ℕ) → has_value (value_in (codes "class") seen) (λ value. operator_holds Includes value name) ≡ attribute_holds (HasClass name) e
-  holds-HasClass name = ap (λ (s : TagAttributes). has_value (value_in (codes "class") s) (λ value. operator_holds Includes value name)) same
-
-  pub holds-HasAttribute : (name : List ℕ) → has_value (value_in name seen) (λ value. true) ≡ attribute_holds (HasAttribute name) e
-  holds-HasAttribute name = ap (λ (s : TagAttributes). has_value (value_in name s) (λ value. true)) same
-
   pub holds-Compares : (name operand : List ℕ) (operator : AttrSelectorOperator) (case : ParsedCaseSensitivity) (operands : AttrExprOperands)
       → operands.name.items ≡ lowercased name → operands.value.items ≡ operand → operands.case_sensitivity ≡ case → (needs_operand operator && is_empty_text operand) ≡ false
       → operands_hold operator operands seen ≡ attribute_holds (Compares name operator operand case) e
