@@ -151,19 +151,11 @@ pub(crate) fn reserve_id(
         None => IdForNode::reserve(&node.match_ids, id),
         Some(((combinator, compound), rest)) => {
             add_step(list, index, *combinator);
-            match combinator {
-                Combinator::Child => reserve_id(
-                    node_index,
-                    &node.children,
-                    list,
-                    compound,
-                    rest,
-                    id,
-                ),
-                Combinator::Descendant => {
-                    reserve_id(node_index, &node.descendants, list, compound, rest, id)
-                }
-            }
+            let under = match combinator {
+                Combinator::Child => &node.children,
+                Combinator::Descendant => &node.descendants,
+            };
+            reserve_id(node_index, under, list, compound, rest, id)
         }
     }
 }
