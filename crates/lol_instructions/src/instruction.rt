@@ -85,7 +85,7 @@ impl Instruction {
         ensures attributes { attributes_counted tries.new ≡ attributes_counted tries.old }
     {
         tries.add_name();
-        match self.by_names(state, local_name) {
+        match self.marks.by_names(&self.predicate, state, local_name) {
             NameValue::True => TryExecResult::Branch(&self.associated_branch),
             NameValue::False => TryExecResult::Fail,
             NameValue::Open => TryExecResult::AttributesRequired,
@@ -111,7 +111,7 @@ impl Instruction {
         ensures attributes { attributes_counted tries.new ≡ attributes_counted tries.old
             + tries_of_attributes (predicate_value self.now.predicate (sight state.now local_name.now)) }
     {
-        match self.by_names(state, local_name) {
+        match self.marks.by_names(&self.predicate, state, local_name) {
             NameValue::True => Some(&self.associated_branch),
             NameValue::False => None,
             NameValue::Open => {
@@ -144,17 +144,6 @@ impl Instruction {
         let branch = self.complete_exec_with_attrs(state, local_name, matcher, tries);
         tries.add_name();
         branch
-    }
-
-    /// What name and counters say of an element: mostly the marks know.
-    #[inline(always)]
-    fn by_names(&self, state: &SelectorState<'_>, local_name: &LocalName<'_>) -> NameValue
-        ensures { result ≡ predicate_value self.now.predicate (sight state.now local_name.now) }
-    {
-        match self.marks.by_names(state, local_name) {
-            Some(value) => value,
-            None => self.predicate.by_names(state, local_name),
-        }
     }
 
     /// Whether an element passes: not where it lacks something that is needed.

@@ -3,7 +3,7 @@
 ghost use Rattle.std.specs.Prelude.{◌≡◌, ◌∷◌, [], ◌++◌, ℕ, Option, Some, None, List, false};
 ghost use Rattle.std.specs.Option.{option_copied};
 ghost use Rattle.lol_instructions.specs.Compounds.{value_of_bool};
-ghost use Rattle.lol_instructions.specs.Compiled.{Sight, sight, name_expr_holds, attribute_expr_holds, predicate_value, some_values};
+ghost use Rattle.lol_instructions.specs.Compiled.{Sight, sight, name_expr_holds, attribute_expr_holds, predicate_value, some_values, tests_in};
 ghost use Rattle.lol_instructions.specs.Marks.{is_marked};
 ghost use Rattle.lol_instructions.specs.PredicateMarks.{AreBoth, is_there, shape_value, head_holds, marks_value, AreNeeded, AreMarksOf};
 ghost use Rattle.lol_instructions.specs.declared.compiled_predicate.CompiledTest.{CompiledTest};
@@ -101,19 +101,23 @@ impl PredicateMarks {
         marks
     }
 
-    /// What they say of an element with this name and these counters, where they say something.
+    /// What name and counters say of an element. Mostly the marks alone know; else the predicate is asked, whose they are.
     #[inline(always)]
     pub(crate) fn by_names(
         &self,
+        predicate: &CompiledPredicate,
         state: &SelectorState<'_>,
         local_name: &LocalName<'_>,
-    ) -> Option<NameValue>
-        ensures { result ≡ marks_value self.now (sight state.now local_name.now) }
+    ) -> NameValue
+        ensures { AreMarksOf self.now (tests_in predicate.now)
+            → result ≡ predicate_value predicate.now (sight state.now local_name.now) }
     {
-        if self.head_holds(local_name) {
-            self.shape.value(state)
-        } else {
-            Some(NameValue::False)
+        if !self.head_holds(local_name) {
+            return NameValue::False;
+        }
+        match self.shape.value(state) {
+            Some(value) => value,
+            None => predicate.by_names(state, local_name),
         }
     }
 
