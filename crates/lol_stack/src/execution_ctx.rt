@@ -55,12 +55,25 @@ impl<'i, E: ElementData> ExecutionCtx<'i, E> {
         ensures no_memory { NeedsNoMemory self.old.with_content branch.now → IsOk result }
         ensures err { OnErr result (self.new ≡ self.old) }
     {
+        let item = &mut self.stack_item;
         if self.with_content {
-            self.stack_item.add_ranges(alloc, branch)?;
+            item.jumps.extend(alloc, &branch.jumps)?;
+            if let Err(error) = item
+                .hereditary_jumps
+                .extend(alloc, &branch.hereditary_jumps)
+            {
+                item.jumps.shrink(&branch.jumps);
+                return Err(error);
+            }
         }
-        if let Err(error) = self.stack_item.add_ids(&branch.matched_ids) {
+        if let Err(error) = item
+            .element_data
+            .matched_ids_mut()
+            .union(&branch.matched_ids)
+        {
             if self.with_content {
-                self.stack_item.remove_ranges(branch);
+                item.jumps.shrink(&branch.jumps);
+                item.hereditary_jumps.shrink(&branch.hereditary_jumps);
             }
             return Err(error);
         }

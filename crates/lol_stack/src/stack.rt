@@ -359,7 +359,9 @@ impl StackNames {
         };
         self.open_names
             .remove_found(&outermost.local_name, name, at);
-        remove_names(&mut self.open_names, inside);
+        for item in inside {
+            self.open_names.remove(&item.local_name);
+        }
     }
 
     #[inline(always)]
@@ -377,15 +379,6 @@ impl StackNames {
     }
 }
 
-/// Takes the last depth of each element's name off, in the order of the elements.
-fn remove_names<E>(open_names: &mut OpenNames, closed: &[StackItem<'static, E>])
-    ensures { (q : Name) → depths_of open_names.new q ≡ without_depths closed.now q (depths_of open_names.old q) }
-{
-    for item in closed {
-        open_names.remove(&item.local_name);
-    }
-}
-
 /// Takes the elements from a depth on out, and calls the handler with their data, in order.
 fn hand_out<N: Drop, E: Drop, F: FnMut(E)>(
     items: &mut LimitedVec<StackItemOf<N, E>>,
@@ -400,7 +393,6 @@ fn hand_out<N: Drop, E: Drop, F: FnMut(E)>(
 {
     let end = items.len();
     for item in items.drain(depth..end) {
-        let StackItemOf { element_data, .. } = item;
-        handler(element_data);
+        handler(item.element_data);
     }
 }

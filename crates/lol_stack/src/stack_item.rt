@@ -68,47 +68,6 @@ impl<N, E: ElementData> StackItemOf<N, E> {
             stack_directive: StackDirective::Push,
         }
     }
-
-    /// Adds ids to those of the element's data. Ids below 32 alone take no memory.
-    pub(crate) fn add_ids(&mut self, ids: &DenseHashSet) -> Result<(), AllocError>
-        ensures ok { OnOk result (self.new ≡ with_more_ids E.ids E.with_ids self.old ids.now) }
-        ensures no_memory { AllSmall ids.now → IsOk result }
-        ensures err { OnErr result (self.new ≡ self.old) }
-    {
-        let element_data = &mut self.element_data;
-        element_data.matched_ids_mut().union(ids)
-    }
-}
-
-impl<N, E> StackItemOf<N, E> {
-    /// Adds those of an instruction's two ranges that are there: both, or refused none.
-    pub(crate) fn add_ranges(
-        &mut self,
-        alloc: Global,
-        branch: &ExecutionBranch,
-    ) -> Result<(), AllocError>
-        ensures ok { OnOk result (self.new ≡ with_ranges self.old branch.now) }
-        ensures no_memory { IsNone branch.now.jumps → IsNone branch.now.hereditary_jumps → IsOk result }
-        ensures err { OnErr result (self.new ≡ self.old) }
-    {
-        self.jumps.extend(alloc, &branch.jumps)?;
-        if let Err(error) = self
-            .hereditary_jumps
-            .extend(alloc, &branch.hereditary_jumps)
-        {
-            self.jumps.shrink(&branch.jumps);
-            return Err(error);
-        }
-        Ok(())
-    }
-
-    /// Takes off what `add_ranges` added.
-    pub(crate) fn remove_ranges(&mut self, branch: &ExecutionBranch)
-        ensures { (before : StackItemOf N E) → self.old ≡ with_ranges before branch.now → self.new ≡ before }
-    {
-        self.jumps.shrink(&branch.jumps);
-        self.hereditary_jumps.shrink(&branch.hereditary_jumps);
-    }
 }
 
 impl<'i, E: Drop> StackItemOf<LocalName<'i>, E> {
