@@ -1,5 +1,5 @@
 -- No report is longer than the ids that the nodes have.
-use Rattle.lol_machine.proofs.Common.{◌≡◌, ◌≢◌, ℕ, ◌+◌, ◌<◌, ◌≤◌, Bool, List, [], ◌∷◌, ◌++◌, length, map, flat_map, inl, inr, refl, sym, ap, ◌∙◌, subst, arith, length-map, map-map, Among, Distinct, among_back, among_either, among_front, among_from_contains, contains_from_among, at_among, within_at, Element, Selectors, IsAt, Ids, ascending, among_matching_ids, matching_ids, matching_ids_ascend, has_content}
+use Rattle.lol_machine.proofs.Common.{◌≡◌, ◌≢◌, ℕ, ◌<◌, ◌≤◌, Bool, List, [], ◌∷◌, ◌++◌, length, flat_map, inl, inr, refl, sym, ap, ◌∙◌, subst, arith, length-map, map-map, Among, Distinct, among_back, among_either, among_front, among_from_contains, contains_from_among, at_among, within_at, ascending, among_matching_ids, matching_ids, matching_ids_ascend, has_content}
 use Rattle.std.proofs.lemmas.List.{length-append}
 use Rattle.std.proofs.lemmas.List.Concat.{length-flat_map}
 use Rattle.std.proofs.lemmas.List.Sums.{sum-map}
@@ -9,7 +9,7 @@ use Rattle.lol_instructions.specs.declared.instruction.Instruction.{Instruction}
 use Rattle.lol_program.specs.Programs as programs
 use Rattle.lol_program.specs.ProgramViews.{code_of, instruction_shown, program_shown}
 use Rattle.lol_machine.specs.Answers.{Match, report}
-use Rattle.lol_machine.specs.ReportRoom.{ReportsAreFew, ids_listed}
+use Rattle.lol_machine.specs.ReportRoom.{ReportsAreFew}
 use Rattle.lol_machine.proofs.Held.{programs_have_each_node}
 
 -- 1. Lists each of whose members is among others

@@ -1,6 +1,7 @@
 -- What survives a refusal, and what end tags do.
 use Rattle.lol_machine.proofs.Common.{◌≡◌, ◌-◌, Result, Ok, Err, ℕ, ◌<◌, ◌≤◌, Bool, true, false, List, [], ◌∷◌, ◌++◌, length, take, drop, Option, Some, None, refl, sym, ap, ◌∙◌, subst, arith, ◌↔◌, slice_get, max, nat_lt, if◌then◌else◌, nat_tests, length-set, length-map, length-take, take_all, drop_all, Name, local_name, StartTag, Html, LimitedVec, IsLimited, Limiter, full_count, IsProgramOf, Selectors, Element, document, Document, after_start, after_end, Event, End, items_in, list_in, slots_in, depths_in, last_count, counted_in, counted_if, counted_item, with_typed, closed_from, element_data_of, depth_to_close, last_below, IsSame, IsEnded, IsEndedAt, IsOrdered, selectors, Vm, Stands, HasOpen, IsRefusal, IsRequested, IsSilent, has_failed, open_after, data_in, OpensNothing, StaysFailed, ExecutionCtx, StackItemOf, StackOf, StackNames, StandsOn, StandsFor, longest, empty}
 use Rattle.std.specs.Result.{OnOk, OnErr}
+use Rattle.std.specs.declared.alloc.AllocError.{AllocError}
 use Rattle.std.specs.List.{take-map, drop-map}
 use Rattle.lol_program.specs.Asts.{nodes_of}
 use Rattle.lol_program.specs.ClosedLaws.{trees_are_closed}
@@ -9,9 +10,7 @@ use Rattle.lol_program.specs.declared.program.Program.{Program}
 use Rattle.lol_program.specs.ProgramViews.{program_shown}
 use Rattle.lol_memory.specs.declared.limited_vec.PushError.{PushError}
 use Rattle.lol_memory.specs.declared.limited_vec.PushError.TheVariants as pushes
-use Rattle.lol_machine.specs.VmErrors.{IsAskedOrFull, push_error, refused_child, refused_push, vm_error}
-use Rattle.lol_machine.specs.declared.error.StartTagError.{StartTagError}
-use Rattle.lol_machine.specs.declared.error.StartTagError.TheVariants as refusals
+use Rattle.lol_machine.specs.VmErrors.{IsAskedOrFull, child_error, push_error}
 use Rattle.lol_stack.specs.declared.stack.AddChildError.{AddChildError}
 use Rattle.lol_stack.specs.declared.stack.AddChildError.TheVariants as children
 use Rattle.lol_machine.specs.declared.error.AuxStartTagInfoRequest.{AuxStartTagInfoRequest}
@@ -203,20 +202,6 @@ never_both r ok err = cc
 pub error_is : {T X : Type 0} {a b : X} → ◌≡◌ {A = Result T X} (Err a) (Err b) → a ≡ b
 error_is is = cc
 
--- a machine's answer as a start tag's refusal
-abbrev refusal_in : {E : Type 0} → VmError E → Option StartTagError
-refusal_in (InfoRequest request) = None
-refusal_in (MemoryLimitExceeded error) = Some refusals.MemoryLimitExceeded
-refusal_in (Memory error) = Some refusals.Memory
-refusal_in CounterFull = Some refusals.CounterFull
-refusal_in Failed = Some refusals.Failed
-
-answered_by : (E : Type 0) (r : StartTagError) → refusal_in {E = E} (vm_error r) ≡ Some r
-answered_by E refusals.MemoryLimitExceeded = refl
-answered_by E refusals.CounterFull = refl
-answered_by E refusals.Memory = refl
-answered_by E refusals.Failed = refl
-
 module _ {E : Type 0} where
   -- where an element wasn't opened, neither a request nor what is answered before a report
   pub push_isnt_silent : (p : PushError) (error other : VmError E) → error ≡ push_error p → error ≡ other → IsSilent other → ⊥
@@ -230,46 +215,27 @@ module _ {E : Type 0} where
   push_is_limit (pushes.Limit e) error is at = refl
   push_is_limit (pushes.Memory e) error is at = cc
 
-  module _ (r : StartTagError) (error : VmError E) (is : error ≡ vm_error r) where
-    pub refused_isnt_asked : (request : AuxStartTagInfoRequest E) → error ≡ InfoRequest request → ⊥
-    refused_isnt_asked request at = let none : None ≡ Some r = ap refusal_in (sym at ∙ is) ∙ answered_by E r in cc
+  pub push_is_memory : (p : PushError) (error : VmError E) (e : AllocError) → error ≡ push_error p → error ≡ Memory e → p ≡ pushes.Memory e
+  push_is_memory (pushes.Limit e) error memory is at = cc
+  push_is_memory (pushes.Memory e) error memory is at = cc
 
-    pub refused_as : (t : StartTagError) → error ≡ vm_error t → r ≡ t
-    refused_as t at = let same : Some r ≡ Some t = sym (answered_by E r) ∙ (ap refusal_in (sym is ∙ at) ∙ answered_by E t) in cc
+  -- what a child that wasn't counted answers
+  pub child_full : (child : AddChildError) (error : VmError E) → error ≡ child_error child → error ≡ CounterFull → child ≡ children.CounterFull
+  child_full children.CounterFull error is at = refl
+  child_full (children.Memory e) error is at = cc
 
-    -- it is answered exactly if the call before refused so
-    pub refused_alike : {A B P : Type 0} (result : Result A StartTagError) (t : StartTagError) → result ≡ Err r → (result ≡ Err t) ↔ P → (◌≡◌ {A = Result B (VmError E)} (Err error) (Err (vm_error t))) ↔ P
-    refused_alike result t made exact = (
-      λ at. exact.0 (made ∙ ap Err (refused_as t (error_is at))),
-      λ p. let found = exact.1 p in let same : r ≡ t = cc in ap Err (is ∙ ap vm_error same),
-    )
+  pub child_isnt : (child : AddChildError) (error : VmError E) → error ≡ child_error child
+      → (error ≡ Failed → ⊥) × (error ≡ MemoryLimitExceeded (record {}) → ⊥) × ((request : AuxStartTagInfoRequest E) → error ≡ InfoRequest request → ⊥)
+  child_isnt children.CounterFull error is = (λ failed. cc, λ limit. cc, λ request asked. cc)
+  child_isnt (children.Memory e) error is = (λ failed. cc, λ limit. cc, λ request asked. cc)
 
-    -- one by the parent's counter is answered as such
-    pub refused_full_only : r ≡ refusals.CounterFull → IsAskedOrFull error
-    refused_full_only full = subst IsAskedOrFull (sym (is ∙ ap vm_error full)) tt
+  -- a call answers as the one before it
+  pub answered_alike : {A B P : Type 0} (result : Result A (VmError E)) (error other : VmError E) → result ≡ Err error → (result ≡ Err other) ↔ P → (◌≡◌ {A = Result B (VmError E)} (Err error) (Err other)) ↔ P
+  answered_alike result error other made exact = (λ at. exact.0 (made ∙ ap Err (error_is at)), λ p. let found = exact.1 p in let same : error ≡ other = cc in ap Err same)
 
-pub refused_same : {A B P : Type 0} (result : Result A StartTagError) (r t : StartTagError) → result ≡ Err r → (result ≡ Err t) ↔ P → (◌≡◌ {A = Result B StartTagError} (Err r) (Err t)) ↔ P
-refused_same result r t made exact = (λ at. exact.0 (made ∙ ap Err (error_is at)), λ p. let found = exact.1 p in let same : r ≡ t = cc in ap Err same)
-
--- what a child that wasn't counted answers
-pub refused_child_full : (child : AddChildError) (r : StartTagError) → r ≡ refused_child child → r ≡ refusals.CounterFull → child ≡ children.CounterFull
-refused_child_full children.CounterFull r is at = refl
-refused_child_full (children.Memory e) r is at = cc
-
-pub refused_child_isnt : (child : AddChildError) (r : StartTagError) → r ≡ refused_child child → (r ≡ refusals.Failed → ⊥) × (r ≡ refusals.MemoryLimitExceeded → ⊥)
-refused_child_isnt children.CounterFull r is = (λ failed. cc, λ limit. cc)
-refused_child_isnt (children.Memory e) r is = (λ failed. cc, λ limit. cc)
-
--- and an element that wasn't opened, as a start tag's refusal
-pub refused_push_is : (p q : PushError) (r : StartTagError) → r ≡ refused_push p → r ≡ refused_push q → p ≡ q
-refused_push_is (pushes.Limit e) (pushes.Limit f) r is at = refl
-refused_push_is (pushes.Limit e) (pushes.Memory f) r is at = cc
-refused_push_is (pushes.Memory e) (pushes.Limit f) r is at = cc
-refused_push_is (pushes.Memory e) (pushes.Memory f) r is at = refl
-
-pub refused_push_isnt : (p : PushError) (r : StartTagError) → r ≡ refused_push p → (r ≡ refusals.Failed → ⊥) × (r ≡ refusals.CounterFull → ⊥)
-refused_push_isnt (pushes.Limit e) r is = (λ failed. cc, λ full. cc)
-refused_push_isnt (pushes.Memory e) r is = (λ failed. cc, λ full. cc)
+  -- one by the parent's counter is answered as such
+  pub full_is_full : (error : VmError E) → error ≡ CounterFull → IsAskedOrFull error
+  full_is_full error full = subst IsAskedOrFull (sym full) tt
 
 -- 7. Calls that open no element
 

@@ -7,7 +7,6 @@ use Rattle.lol_base.specs.StartTags.{StartTag}
 use Rattle.lol_instructions.specs.Counters.{full_count}
 use Rattle.lol_program.specs.Paths.{Selectors}
 use Rattle.lol_stack.specs.Stacks.{last_count}
-use Rattle.lol_machine.specs.Answers.{document}
 use Rattle.lol_machine.specs.Documents.{Child, Document, after_start, children_of, element_of, parent_of, same_parent}
 use Rattle.lol_machine.specs.Events.{Event, has_content}
 use Rattle.lol_machine.specs.Answers.{opens}

@@ -1,5 +1,5 @@
 -- What is tried by keys, and what is asked for: what needs attributes, and no more.
-use Rattle.std.proofs.Common.{◌≡◌, Bool, true, false, cond, not, ◌&&◌, ◌||◌, List, refl, sym, ap, ◌∙◌}
+use Rattle.std.proofs.Common.{◌≡◌, Bool, true, false, cond, not, ◌&&◌, ◌||◌, List, refl, sym, ap}
 use Rattle.std.specs.List.{list_any}
 use Rattle.lol_base.specs.BoolLaws.{and_parts, and_of}
 use Rattle.lol_base.specs.MemberLaws.{among_any, any_among}

@@ -1,8 +1,6 @@
 -- What a start tag is answered with that isn't answered with its report.
 use Rattle.lol_memory.specs.declared.limited_vec.PushError.{PushError}
 use Rattle.lol_memory.specs.declared.limited_vec.PushError.TheVariants as pushes
-use Rattle.lol_machine.specs.declared.error.StartTagError.{StartTagError}
-use Rattle.lol_machine.specs.declared.error.StartTagError.TheVariants as refusals
 use Rattle.lol_machine.specs.declared.error.VmError.{VmError}
 use Rattle.lol_machine.specs.declared.error.VmError.TheVariants.{InfoRequest, MemoryLimitExceeded, Memory, CounterFull, Failed}
 use Rattle.lol_stack.specs.declared.stack.AddChildError.{AddChildError}
@@ -16,20 +14,6 @@ module _ {E : Type 0} where
   abbrev pub push_error : PushError → VmError E
   push_error (pushes.Limit error) = MemoryLimitExceeded error
   push_error (pushes.Memory error) = Memory error
-
-  abbrev pub vm_error : StartTagError → VmError E
-  vm_error refusals.MemoryLimitExceeded = MemoryLimitExceeded (record {})
-  vm_error refusals.CounterFull = CounterFull
-  vm_error refusals.Memory = Memory (record {})
-  vm_error refusals.Failed = Failed
-
-abbrev pub refused_child : AddChildError → StartTagError
-refused_child children.CounterFull = refusals.CounterFull
-refused_child (children.Memory error) = refusals.Memory
-
-abbrev pub refused_push : PushError → StartTagError
-refused_push (pushes.Limit error) = refusals.MemoryLimitExceeded
-refused_push (pushes.Memory error) = refusals.Memory
 
 -- what a start tag is answered with where nothing is refused but by the parent's counter
 abbrev pub IsAskedOrFull : {E : Type 0} → VmError E → Type 0

@@ -35,23 +35,6 @@ pub enum VmError<E> {
     Failed,
 }
 
-/// Why a start tag was refused: no other is answered. (Not in lol_html, whose `VmError` has a request too.)
-#[derive(Debug, Clone, Copy, PartialEq, Eq, Error)]
-pub enum StartTagError {
-    /// The charge for its element would pass the limiter's maximum.
-    #[error("the memory limit would have been passed")]
-    MemoryLimitExceeded,
-    /// Its parent has as many children as can be counted.
-    #[error("an element has as many children as can be counted")]
-    CounterFull,
-    /// An allocation failed.
-    #[error("out of memory")]
-    Memory,
-    /// An earlier tag was refused.
-    #[error("an earlier start tag was refused: no other is answered")]
-    Failed,
-}
-
 /// The variant's name: the data of an element needn't be `Debug`.
 impl<E> fmt::Debug for VmError<E> {
     fn fmt<W: fmt::Write>(&self, f: &mut fmt::Formatter<W>) -> fmt::Result {
@@ -89,52 +72,6 @@ impl<E> From<PushError> for VmError<E> {
         match error {
             PushError::Limit(error) => VmError::MemoryLimitExceeded(error),
             PushError::Memory(error) => VmError::Memory(error),
-        }
-    }
-}
-
-impl<E> From<StartTagError> for VmError<E> {
-    ghost use Rattle.std.specs.Prelude.{◌≡◌};
-    ghost use Rattle.lol_machine.specs.VmErrors.{vm_error};
-
-    ghost from_gives = { λ error made. made ≡ vm_error error };
-
-    fn from(error: StartTagError) -> Self {
-        match error {
-            StartTagError::MemoryLimitExceeded => {
-                VmError::MemoryLimitExceeded(MemoryLimitExceededError)
-            }
-            StartTagError::CounterFull => VmError::CounterFull,
-            StartTagError::Memory => VmError::Memory(AllocError),
-            StartTagError::Failed => VmError::Failed,
-        }
-    }
-}
-
-impl From<AddChildError> for StartTagError {
-    ghost use Rattle.std.specs.Prelude.{◌≡◌};
-    ghost use Rattle.lol_machine.specs.VmErrors.{refused_child};
-
-    ghost from_gives = { λ error refused. refused ≡ refused_child error };
-
-    fn from(error: AddChildError) -> Self {
-        match error {
-            AddChildError::CounterFull => StartTagError::CounterFull,
-            AddChildError::Memory(_) => StartTagError::Memory,
-        }
-    }
-}
-
-impl From<PushError> for StartTagError {
-    ghost use Rattle.std.specs.Prelude.{◌≡◌};
-    ghost use Rattle.lol_machine.specs.VmErrors.{refused_push};
-
-    ghost from_gives = { λ error refused. refused ≡ refused_push error };
-
-    fn from(error: PushError) -> Self {
-        match error {
-            PushError::Limit(_) => StartTagError::MemoryLimitExceeded,
-            PushError::Memory(_) => StartTagError::Memory,
         }
     }
 }

@@ -10,5 +10,5 @@ mod tag_runs;
 mod vm;
 pub mod vm_laws;
 
-pub use error::{AuxStartTagInfoRequest, StartTagError, VmError};
+pub use error::{AuxStartTagInfoRequest, VmError};
 pub use vm::{SelectorMatchingVm, VmOf};

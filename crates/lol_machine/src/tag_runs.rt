@@ -5,7 +5,7 @@ ghost use Rattle.lol_instructions.specs.Compiled.{sight};
 ghost use Rattle.lol_instructions.specs.Tries.{attributes_counted};
 ghost use Rattle.lol_machine.specs.SparedRuns.{singles};
 ghost use Rattle.lol_machine.specs.InstructionRuns.{AreRunnable, NeedNoMemory};
-ghost use Rattle.lol_machine.specs.TagRuns.{all_ranges, left_ranges, ranges_from, ranges_left, tried_at, IsStopIn, IsPointIn, AreTried, AreExecuted, AreWithin, jumps_in, ranges_to_run_in, sight_in};
+ghost use Rattle.lol_machine.specs.TagRuns.{all_ranges, left_ranges, ranges_left, tried_at, IsPointIn, AreTried, AreExecuted, AreWithin, jumps_in, ranges_to_run_in, sight_in};
 
 use crate::instruction_runs::{
     complete_instructions, exec_instructions, instructions_in, range_from, try_instructions,
@@ -262,34 +262,9 @@ impl<'p, R: TagRanges> TagRun<'p, R> {
         ensures content { ctx.new.with_content ≡ ctx.old.with_content }
         ensures no_memory { NeedNoMemory ctx.old.with_content self.now.instructions.now → IsOk result }
     {
-        match point {
-            RecoveryPoint::AtOnce => self.exec_from(0, matcher, ctx, tries),
-            RecoveryPoint::At(stop) => self.complete_from(stop, matcher, ctx, tries),
-        }
-    }
-
-    /// Goes on from a stop, with attributes.
-    #[inline(always)]
-    fn complete_from<E: ElementData>(
-        &self,
-        stop: Stop,
-        matcher: &AttributeMatcher<'_>,
-        ctx: &mut ExecutionCtx<'_, E>,
-        tries: &mut Tries,
-    ) -> Result<(), AllocError>
-        ensures executed { IsStopIn self.now.instructions.now (R.listed self.now.ranges) stop
-            → AreRunnable self.now.instructions.now (ranges_from (R.listed self.now.ranges) stop) tries.old
-            → IfOk result (λ done. AreExecuted E.ids E.with_ids
-            (sight self.now.state ctx.old.stack_item.local_name) self.now.instructions.now
-            (ranges_from (R.listed self.now.ranges) stop) ctx.old ctx.new tries.old tries.new matcher.now 1) }
-        ensures within { IsStopIn self.now.instructions.now (R.listed self.now.ranges) stop
-            → AreRunnable self.now.instructions.now (ranges_from (R.listed self.now.ranges) stop) tries.old
-            → AreWithin (sight self.now.state ctx.old.stack_item.local_name) self.now.instructions.now
-            (ranges_from (R.listed self.now.ranges) stop) tries.old tries.new 1 }
-        ensures name { ctx.new.stack_item.local_name ≡ ctx.old.stack_item.local_name }
-        ensures content { ctx.new.with_content ≡ ctx.old.with_content }
-        ensures no_memory { NeedNoMemory ctx.old.with_content self.now.instructions.now → IsOk result }
-    {
+        let RecoveryPoint::At(stop) = point else {
+            return self.exec_from(0, matcher, ctx, tries);
+        };
         if stop.range >= self.ranges.len() {
             return Ok(());
         }

@@ -26,7 +26,7 @@ ghost use Rattle.lol_stack.specs.Stacks.{items_in, slots_in, item_bytes_in, list
 ghost use Rattle.lol_machine.specs.Views.{selectors};
 ghost use Rattle.lol_machine.specs.Vms.{Stands, HasOpen, IsNameOf, IsTagOf, IsAnswered, IsReported, IsTriedAtMost, IsPending, IsRefusal, IsSilent, NeedsRest, content_in, open_after, stack_in, tries_in, has_failed, program_in, data_in, slots_charged, slot_bytes, ChargesSlots, IsCovered, IsRequested, IsEntered, OpensNothing, StaysFailed, is_asked_for, with_failure};
 
-use crate::error::{AuxStartTagInfoRequest, StartTagError, VmError};
+use crate::error::{AuxStartTagInfoRequest, VmError};
 use crate::spared_runs::{RowSpace, find_at, find_by_name};
 use crate::tag_runs::{RecoveryPoint, TagRun};
 use lol_base::{AuxStartTagInfo, LocalName, Namespace};
@@ -53,32 +53,6 @@ pub struct VmOf<P, N, M, E> {
 pub type SelectorMatchingVm<E> = VmOf<Program, LocalName<'static>, StackNames, E>;
 
 impl<P, N, M, E> VmOf<P, N, M, E> {
-    fn with_parts(
-        alloc: Global,
-        program: P,
-        enable_esi_tags: bool,
-        stack: StackOf<N, M, E>,
-        space: RowSpace,
-    ) -> Self
-        ensures space { result.space ≡ space }
-        ensures program { result.program ≡ program }
-        ensures enable_esi_tags { result.enable_esi_tags ≡ enable_esi_tags }
-        ensures stack { result.stack ≡ stack }
-        ensures names { names_counted result.tries ≡ 0 }
-        ensures attributes { attributes_counted result.tries ≡ 0 }
-        ensures failed { result.failed ≡ false }
-    {
-        VmOf {
-            program,
-            enable_esi_tags,
-            stack,
-            tries: Tries::new(),
-            space,
-            failed: false,
-            alloc,
-        }
-    }
-
     /// Lends the data of the last open element, to be changed in place; none exactly if no element is open. Until they are changed, they
     /// hold exactly the ids that the element is reported under. What is written there changes no later report. It takes no memory.
     pub fn current_element_data_mut(&mut self) -> Option<&mut E>
@@ -141,7 +115,15 @@ impl<E: ElementData> VmOf<Program, LocalName<'static>, StackNames, E> {
         let by_type = program.enable_nth_of_type;
         let space = RowSpace::new(alloc, &program)?;
         let stack: Stack<E> = StackOf::new(alloc, item_bytes, by_type);
-        Ok(VmOf::with_parts(alloc, program, enable_esi_tags, stack, space))
+        Ok(VmOf {
+            program,
+            enable_esi_tags,
+            stack,
+            tries: Tries::new(),
+            space,
+            failed: false,
+            alloc,
+        })
     }
 
     /// An empty list with room for every report: no start tag is reported under more ids than the nodes have. (Not in lol_html.)
@@ -209,11 +191,11 @@ impl<E: ElementData> VmOf<Program, LocalName<'static>, StackNames, E> {
             match_handler.old match_handler.new }
     {
         let mut ctx = ExecutionCtx::new(self.alloc, local_name, ns, self.enable_esi_tags);
-        let stopped = match self.begin(&mut ctx) {
-            Ok(stopped) => stopped,
-            Err(error) => return Err(VmError::from(error)),
+        let begun = match self.begin(&mut ctx) {
+            Ok(begun) => begun,
+            Err(error) => return Err(error),
         };
-        if let Some(point) = stopped {
+        if let Some(point) = begun {
             return self.request(ctx, point);
         }
         ctx.handle_matched_ids(match_handler);
@@ -239,7 +221,7 @@ impl<E: ElementData> VmOf<Program, LocalName<'static>, StackNames, E> {
         aux_info: AuxStartTagInfo<'_>,
         limiter: &mut SharedMemoryLimiter,
         match_handler: &mut F,
-    ) -> Result<bool, StartTagError>
+    ) -> Result<bool, VmError<E>>
         requires ranges { RangesAreInside aux_info }
         requires callable { F.IsAlwaysCallable match_handler.old }
         ensures again { F.IsAlwaysCallable match_handler.new }
@@ -249,24 +231,25 @@ impl<E: ElementData> VmOf<Program, LocalName<'static>, StackNames, E> {
             × IsAnswered E.ids F.step s esi events tag asked self.old self.new match_handler.old match_handler.new)) }
         ensures charges { ChargesSlots self.old self.new limiter.old limiter.new }
         ensures left { OnErr result (OpensNothing (Some local_name.entry) self.old self.new limiter.old limiter.new) }
-        ensures failed { StaysFailed (result ≡ Err StartTagError.Failed) self.old self.new }
-        ensures full { (result ≡ Err StartTagError.CounterFull)
+        ensures unasked { (request : AuxStartTagInfoRequest E) → result ≡ Err (VmError.InfoRequest request) → ⊥ }
+        ensures failed { StaysFailed (result ≡ Err VmError.Failed) self.old self.new }
+        ensures full { (result ≡ Err VmError.CounterFull)
             ↔ ((has_failed self.old ≡ false) × (last_count (stack_in self.old) ≡ full_count)) }
         ensures refused { OnErr result (has_failed self.new ≡ true) }
-        ensures silent { (result ≡ Err StartTagError.CounterFull) ⊎ (result ≡ Err StartTagError.Failed)
+        ensures silent { (error : VmError E) → result ≡ Err error → IsSilent error
             → match_handler.new ≡ match_handler.old }
-        ensures limited { result ≡ Err StartTagError.MemoryLimitExceeded → IsDue self.old limiter.old
+        ensures limited { IsErrOf result (VmError.MemoryLimitExceeded (record {})) → IsDue self.old limiter.old
             × ForHandedOf self.old local_name.entry ns aux_info.entry (λ s esi events tag.
             (has_content esi tag ≡ true) × IsReported F.step s esi events tag (is_asked_for s esi events tag)
             (tries_in self.new) match_handler.old match_handler.new) }
         ensures no_memory { IfErr result (λ error. ForTagOf self.old local_name.entry ns (λ s esi events tag.
-            TakesNoMemory s tag → error ≡ StartTagError.CounterFull)) }
+            TakesNoMemory s tag → error ≡ VmError.CounterFull)) }
         ensures tried { ForTagOf self.old local_name.entry ns (λ s esi events tag. NeedsRest s aux_info.entry tag
             → IsTriedAtMost s esi events tag (tries_in self.new)) }
-        ensures due { IfErr result (λ error. IsDue self.old limiter.old
-            → ForTagOf self.old local_name.entry ns (λ s esi events tag.
-            AreFlat s → error ≡ StartTagError.Memory → ⊥)) }
-        ensures all_or_none { result ≡ Err StartTagError.Memory → (match_handler.new ≡ match_handler.old)
+        ensures due { (error : AllocError) → result ≡ Err (VmError.Memory error) → IsDue self.old limiter.old
+            → ForTagOf self.old local_name.entry ns (λ s esi events tag. AreFlat s → ⊥) }
+        ensures all_or_none { (error : AllocError) → result ≡ Err (VmError.Memory error)
+            → (match_handler.new ≡ match_handler.old)
             ⊎ IsAfterHandedReport F.step self.old local_name.entry ns aux_info.entry limiter.old (tries_in self.new)
             match_handler.old match_handler.new }
     {
@@ -278,49 +261,47 @@ impl<E: ElementData> VmOf<Program, LocalName<'static>, StackNames, E> {
         if let Some(point) = stopped {
             return match self.finish(ctx, point, aux_info, limiter, match_handler) {
                 Ok(()) => Ok(true),
-                Err(error) => Err(StartTagError::from(error)),
+                Err(error) => Err(VmError::from(error)),
             };
         }
         ctx.handle_matched_ids(match_handler);
         match self.enter(ctx, limiter) {
             Ok(()) => Ok(false),
-            Err(error) => Err(StartTagError::from(error)),
+            Err(error) => Err(VmError::from(error)),
         }
     }
 
     /// Counts a start tag, of which only its name is known, and tries it by that name, up to the first test that needs its attributes.
     #[inline(always)]
-    fn begin(
-        &mut self,
-        ctx: &mut ExecutionCtx<'_, E>,
-    ) -> Result<Option<RecoveryPoint>, StartTagError>
+    fn begin(&mut self, ctx: &mut ExecutionCtx<'_, E>) -> Result<Option<RecoveryPoint>, VmError<E>>
         requires { IsNewContext E.ids ctx.old }
         ensures begun { IfOk result (IsBegun E.ids E.with_ids self.old self.new ctx.old ctx.new) }
         ensures name { ctx.new.stack_item.local_name ≡ ctx.old.stack_item.local_name }
         ensures left { (limiter : Limiter)
             → OpensNothing (Some ctx.old.stack_item.local_name) self.old self.new limiter limiter }
         ensures bytes { slot_bytes self.new ≡ slot_bytes self.old }
-        ensures failed { StaysFailed (result ≡ Err StartTagError.Failed) self.old self.new }
-        ensures full { (result ≡ Err StartTagError.CounterFull)
+        ensures unasked { (request : AuxStartTagInfoRequest E) → result ≡ Err (VmError.InfoRequest request) → ⊥ }
+        ensures failed { StaysFailed (result ≡ Err VmError.Failed) self.old self.new }
+        ensures full { (result ≡ Err VmError.CounterFull)
             ↔ ((has_failed self.old ≡ false) × (last_count (stack_in self.old) ≡ full_count)) }
         ensures refused { OnErr result (has_failed self.new ≡ true) }
-        ensures unlimited { result ≡ Err StartTagError.MemoryLimitExceeded → ⊥ }
+        ensures unlimited { IsErrOf result (VmError.MemoryLimitExceeded (record {})) → ⊥ }
         ensures no_memory { IfErr result (λ error. ForTagOf self.old ctx.old.stack_item.local_name ctx.old.ns
-            (λ s esi events tag. TakesNoMemory s tag ⊎ AreFlat s → error ≡ StartTagError.CounterFull)) }
+            (λ s esi events tag. TakesNoMemory s tag ⊎ AreFlat s → error ≡ VmError.CounterFull)) }
         ensures tried { ForTagOf self.old ctx.old.stack_item.local_name ctx.old.ns (λ s esi events tag.
             IsTriedAtMost s esi events tag (tries_in self.new)) }
     {
         if self.failed {
-            return Err(StartTagError::Failed);
+            return Err(VmError::Failed);
         }
         self.tries = Tries::new();
         if let Err(error) = self.stack.add_child(&ctx.stack_item.local_name) {
             self.failed = true;
-            return Err(StartTagError::from(error));
+            return Err(VmError::from(error));
         }
         match self.try_start(ctx) {
             Ok(stopped) => Ok(stopped),
-            Err(_) => Err(StartTagError::Memory),
+            Err(error) => Err(VmError::Memory(error)),
         }
     }
 

@@ -14,7 +14,7 @@ use crate::laws::run_laws;
 use crate::open_element::OpenElement;
 use crate::tags::number_opened;
 use lol_base::{AuxStartTagInfo, LocalName, Namespace};
-use lol_machine::{SelectorMatchingVm, StartTagError};
+use lol_machine::{SelectorMatchingVm, VmError};
 use lol_memory::{MatchInfo, SharedMemoryLimiter};
 
 /// A start tag that was reported: whether its attributes were asked for, and whether its element was opened.
@@ -73,9 +73,10 @@ pub(crate) fn hand_tag<T: Drop>(
             asked,
             opened: number_opened(vm, open_before, number),
         }),
-        Err(StartTagError::MemoryLimitExceeded) => Err(MatcherError::MemoryLimitExceeded),
-        Err(StartTagError::CounterFull) => Err(MatcherError::CounterFull),
-        Err(StartTagError::Memory) => Err(MatcherError::Memory),
-        Err(StartTagError::Failed) => Err(MatcherError::Failed),
+        Err(VmError::InfoRequest(_)) => unreachable!(),
+        Err(VmError::MemoryLimitExceeded(_)) => Err(MatcherError::MemoryLimitExceeded),
+        Err(VmError::CounterFull) => Err(MatcherError::CounterFull),
+        Err(VmError::Memory(_)) => Err(MatcherError::Memory),
+        Err(VmError::Failed) => Err(MatcherError::Failed),
     }
 }

@@ -3,8 +3,8 @@
 use lol_matcher::{AddError, ErrorLocation, MatcherError};
 use lol_vm::{
     AddChildError, Ast, Attributes, LocalName, MatchInfo, Namespace, RunCause, RunRefusal, RunStop,
-    SelectorError, SelectorMatchingVm, SharedMemoryLimiter, StartTagError, TagEvent, TagReport,
-    VmError, match_each_event,
+    SelectorError, SelectorMatchingVm, SharedMemoryLimiter, TagEvent, TagReport, VmError,
+    match_each_event,
 };
 use std::alloc::{AllocError, Global};
 use std::fmt::Display;
@@ -119,17 +119,6 @@ fn machine_says(
     says(rt, alloc, &error, wanted)
 }
 
-/// What the errors of a start tag say.
-const OF_START_TAGS: [(StartTagError, &str); 4] = [
-    (StartTagError::CounterFull, MANY),
-    (StartTagError::Memory, "out of memory"),
-    (
-        StartTagError::MemoryLimitExceeded,
-        "the memory limit would have been passed",
-    ),
-    (StartTagError::Failed, FAILED),
-];
-
 /// What the errors of a matcher say.
 const OF_MATCHERS: [(MatcherError, &str); 6] = [
     (
@@ -172,8 +161,7 @@ fn say_why_a_matcher_refused(rt: HostRuntime) -> Result<(), Fail> {
 fn say_why_a_start_tag_was_refused(rt: HostRuntime) -> Result<(), Fail> {
     machine_says(&rt, rt.alloc(), VmError::CounterFull, MANY)?;
     machine_says(&rt, rt.alloc(), VmError::Failed, FAILED)?;
-    says(&rt, rt.alloc(), &AddChildError::CounterFull, MANY)?;
-    all_say(&rt, rt.alloc(), &OF_START_TAGS)
+    says(&rt, rt.alloc(), &AddChildError::CounterFull, MANY)
 }
 
 #[test]

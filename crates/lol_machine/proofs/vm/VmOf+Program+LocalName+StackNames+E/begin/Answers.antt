@@ -1,12 +1,12 @@
 use Rattle.lol_machine.proofs.Common.{◌≡◌, arith, Err, refl, ap, ◌∙◌, subst, Vm, slot_bytes, document, longest}
 use Rattle.lol_stack.specs.declared.stack.AddChildError.TheVariants.{CounterFull}
 use Rattle.lol_machine.specs.TriedStarts.{IsTried}
-use Rattle.lol_machine.specs.VmErrors.{refused_child}
+use Rattle.lol_machine.specs.VmErrors.{child_error}
 use Rattle.lol_machine.proofs.FreeTagLemmas.{free_if, has_none_typed, small_if}
 use Rattle.lol_machine.proofs.TriedStartLemmas.{Trial, most_tried, never_refused, trial_of}
 use Rattle.lol_machine.proofs.VmStarts.{none_tried}
 use Rattle.lol_machine.specs.RunLaws.{err_is_not_ok}
-use Rattle.lol_machine.proofs.VmRefusals.{counted_opens_nothing, refused_child_full, refused_child_isnt, same_opens_nothing, stays_unfailed}
+use Rattle.lol_machine.proofs.VmRefusals.{child_full, child_isnt, counted_opens_nothing, same_opens_nothing, stays_unfailed}
 use Rattle.lol_machine.proofs.vm.VmOf+Program+LocalName+StackNames+E.begin.Goals as goal
 
 pub returns-then-self : goal.returns-then-self
@@ -18,6 +18,7 @@ returns-then-self g c = record {
   failed = record { exactly = (λ is. cc, λ failed. refl); stuck = λ failed. refl };
   full = (λ is. cc, λ full. cc);
   refused = c.if-self.true;
+  unasked = λ request is. cc;
   unlimited = λ limit. cc;
   no_memory = λ s esi events tag stands named takes. cc;
   tried = λ s esi events tag stands named. cc;
@@ -26,7 +27,7 @@ returns-then-self g c = record {
 -- its parent's counter is full, or memory was refused
 pub returns-in-Err : goal.returns-in-Err
 returns-in-Err g c =
-    let isnt = refused_child_isnt c.in-Err.error c.from.result c.from.ensures in
+    let isnt = child_isnt c.in-Err.error c.from.result c.from.ensures in
     record {
       begun = tt;
       name = refl;
@@ -34,15 +35,16 @@ returns-in-Err g c =
       bytes = c.add_child.ensures.slots.1;
       failed = stays_unfailed (λ is. isnt.0 cc) (λ failed. cc);
       full = (
-        λ is. let child = refused_child_full c.in-Err.error c.from.result c.from.ensures cc in (c.if-self.false, c.add_child.ensures.full.0 (c.in-Err.is ∙ ap Err child)),
-        λ full. let is = c.add_child.ensures.full.1 full.1 in let child : c.in-Err.error ≡ CounterFull = cc in ap Err (c.from.ensures ∙ ap refused_child child),
+        λ is. let child = child_full c.in-Err.error c.from.result c.from.ensures cc in (c.if-self.false, c.add_child.ensures.full.0 (c.in-Err.is ∙ ap Err child)),
+        λ full. let is = c.add_child.ensures.full.1 full.1 in let child : c.in-Err.error ≡ CounterFull = cc in ap Err (c.from.ensures ∙ ap child_error child),
       );
       refused = refl;
+      unasked = λ request is. isnt.2 request cc;
       unlimited = λ limit. isnt.1 cc;
       no_memory = λ s esi events tag stands named takes.
           let full = c.in-Err.ensures.no_memory (has_none_typed s stands.paths c.args.self.now (document s esi events) (longest s esi events) stands.standing (small_if s tag takes)) in
           let child : c.in-Err.error ≡ CounterFull = cc in
-          c.from.ensures ∙ ap refused_child child;
+          c.from.ensures ∙ ap child_error child;
       tried = λ s esi events tag stands named. none_tried s esi events tag c.new-self.result c.new-self.result refl c.new-self.ensures.names c.new-self.ensures.attributes;
     }
 
@@ -62,10 +64,11 @@ returns-in-Err-try_start g c =
       failed = stays_unfailed (λ is. cc) (λ failed. cc);
       full = (λ is. cc, λ full. absurd (omega (arith, counted.room, full.1)));
       refused = ap (λ (v : Vm _). v.failed) is;
+      unasked = λ request is. cc;
       unlimited = λ limit. cc;
       no_memory = λ s esi events tag stands named takes.
           let ok = never_refused trial s esi events tag stands named (free_if s stands.paths c.args.self.now (document s esi events) (longest s esi events) stands.standing esi tag takes) in
-          absurd (err_is_not_ok c.try_start.result c.in-Err-try_start.field-0 c.in-Err-try_start.is ok);
+          absurd (err_is_not_ok c.try_start.result c.in-Err-try_start.error c.in-Err-try_start.is ok);
       tried = λ s esi events tag stands named. most_tried trial s esi events tag stands named;
     }
 
@@ -96,6 +99,7 @@ returns-in-Ok g c =
       failed = stays_unfailed (λ is. cc) (λ failed. cc);
       full = (λ is. cc, λ full. absurd (omega (arith, counted.room, full.1)));
       refused = tt;
+      unasked = λ request is. cc;
       unlimited = λ limit. cc;
       no_memory = tt;
       tried = λ s esi events tag stands named. most_tried trial s esi events tag stands named;

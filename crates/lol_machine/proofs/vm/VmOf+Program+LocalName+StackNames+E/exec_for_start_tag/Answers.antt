@@ -1,7 +1,6 @@
 use Rattle.lol_machine.proofs.Common.{None, ◌≡◌, arith, false, inl, inr, Err, refl, sym, ap, ◌∙◌, subst, IsNone, Name, local_name, StackOf, StackNames, list_in, IsTriedAtMost}
 use Rattle.lol_machine.specs.Due.{IsDue}
 use Rattle.lol_machine.specs.VmErrors.{IsAskedOrFull}
-use Rattle.lol_machine.specs.declared.error.StartTagError.TheVariants as refusals
 use Rattle.lol_machine.specs.declared.error.VmError.{VmError}
 use Rattle.lol_machine.specs.declared.error.VmError.TheVariants.{CounterFull, Failed, InfoRequest, Memory}
 use Rattle.lol_machine.specs.CallCharges.{charges_both}
@@ -10,7 +9,7 @@ use Rattle.lol_machine.proofs.FreeTagLemmas.{asked_only, limit_only, not_for_mem
 use Rattle.lol_machine.proofs.TriedStartLemmas.{began, begun_answered, begun_complete, begun_due, begun_pending, begun_unfailed, named_so, new_context}
 use Rattle.lol_machine.proofs.VmStarts.{content_here, content_there, entered_here, reported, requested_is}
 use Rattle.lol_machine.specs.RunLaws.{err_is_not_ok}
-use Rattle.lol_machine.proofs.VmRefusals.{error_is, never_both, push_isnt_silent, push_is_limit, refused_alike, refused_as, refused_full_only, refused_isnt_asked, requested_as, requested_ok, requested_refused, not_false, on_err, opens_nothing_both, opens_nothing_of, requested_keeps, same_opens_nothing, stays_unfailed, unfailed_before}
+use Rattle.lol_machine.proofs.VmRefusals.{answered_alike, error_is, full_is_full, never_both, push_isnt_silent, push_is_limit, requested_as, requested_ok, requested_refused, not_false, on_err, opens_nothing_both, opens_nothing_of, requested_keeps, same_opens_nothing, stays_unfailed, unfailed_before}
 use Rattle.lol_machine.proofs.vm.VmOf+Program+LocalName+StackNames+E.exec_for_start_tag.Goals as goal
 
 pub begin-requires : goal.begin-requires
@@ -21,28 +20,25 @@ begin-requires g c = new_context g.E.ElementData.ids c.args.local_name c.new-ctx
 pub returns-in-Err : goal.returns-in-Err
 returns-in-Err g c =
     let error = c.in-Err.error in
-    let from = c.from.ensures in
     let left = c.begin.ensures.left c.args.limiter.now in
     record {
       again = c.requires;
       answered = tt;
-      asked = λ request is. absurd (refused_isnt_asked error c.from.result from request (error_is is));
+      asked = λ request is. absurd (c.begin.ensures.unasked request (c.in-Err.is ∙ ap Err (error_is is)));
       charges = charges_unopened left c.begin.ensures.bytes;
       left = opens_nothing_of c.new-ctx.ensures.item.name left;
-      failed = record { exactly = refused_alike error c.from.result from c.begin.result refusals.Failed c.in-Err.is c.begin.ensures.failed.exactly; stuck = c.begin.ensures.failed.stuck };
-      full = refused_alike error c.from.result from c.begin.result refusals.CounterFull c.in-Err.is c.begin.ensures.full;
+      failed = record { exactly = answered_alike c.begin.result error Failed c.in-Err.is c.begin.ensures.failed.exactly; stuck = c.begin.ensures.failed.stuck };
+      full = answered_alike c.begin.result error CounterFull c.in-Err.is c.begin.ensures.full;
       refused = λ e is refusal. c.in-Err.ensures.refused;
       silent = λ e is silent. refl;
-      limited = λ limit. absurd (c.begin.ensures.unlimited (c.in-Err.is ∙ ap Err (refused_as error c.from.result from refusals.MemoryLimitExceeded (error_is limit))));
+      limited = λ limit. absurd (c.begin.ensures.unlimited (c.in-Err.is ∙ ap Err (error_is limit)));
       no_memory = λ e is s esi events tag stands named takes.
           let full = c.in-Err.ensures.no_memory s esi events tag stands (named_so c.new-ctx.ensures.item c.new-ctx.ensures.ns tag named) (inl takes) in
-          let same : c.from.result ≡ e = error_is is in
-          subst IsAskedOrFull same (refused_full_only error c.from.result from full);
+          subst IsAskedOrFull (error_is is) (full_is_full error full);
       tried = λ s esi events tag stands named. c.begin.ensures.tried s esi events tag stands (named_so c.new-ctx.ensures.item c.new-ctx.ensures.ns tag named);
       due = λ e is due s esi events tag stands named runs.
           let full = c.in-Err.ensures.no_memory s esi events tag stands (named_so c.new-ctx.ensures.item c.new-ctx.ensures.ns tag named) (inr runs.flat) in
-          let same : c.from.result ≡ e = error_is is in
-          not_for_memory e (subst IsAskedOrFull same (refused_full_only error c.from.result from full));
+          not_for_memory e (subst IsAskedOrFull (error_is is) (full_is_full error full));
       all_or_none = λ e is. inl refl;
     }
 
@@ -113,8 +109,8 @@ returns-in-Err-enter g c =
     let b = began g.met.E.ElementData.ids_of_changed c.new-ctx.ensures.item c.new-ctx.ensures.ns c.new-ctx.ensures.with_content c.in-Ok.ensures.begun in
     let left = c.begin.ensures.left c.args.limiter.now in
     let pushed = c.in-Err-enter.error in
-    let error = c.from-in-Err-enter.result in
-    let from = c.from-in-Err-enter.ensures in
+    let error = c.from.result in
+    let from = c.from.ensures in
     let never = λ (closed : c.begin.new.ctx.with_content ≡ false). err_is_not_ok c.enter.result pushed c.in-Err-enter.is (c.enter.ensures.closed (content_there c.handle_matched_ids.ensures.same closed)) in
     -- where it can't be charged, that is why
     let limit = λ (e : VmError _) (same : e ≡ error) (due : IsDue c.args.self.now c.args.limiter.now).
