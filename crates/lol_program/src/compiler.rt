@@ -51,8 +51,8 @@ impl Compiler {
         ensures rows { makes_rows result ≡ true }
     {
         Compiler {
-            alloc: self.alloc,
             with_rows: true,
+            ..self
         }
     }
 

@@ -96,9 +96,7 @@ impl NodeIndex {
         ensures none { IfNone result (IsNowhereFrom FEW (tests_of_compound compound.now) (map node_of nodes.now)) }
     {
         for salt in 0..SALTS {
-            let Some(index) = self.indices.get(&node_key(list, salt, compound)).copied() else {
-                return None;
-            };
+            let index = self.indices.get(&node_key(list, salt, compound)).copied()?;
             if index < nodes.len() && nodes[index].predicate.is_of(compound) {
                 return Some(index);
             }

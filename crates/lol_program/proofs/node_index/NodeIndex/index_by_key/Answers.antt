@@ -8,19 +8,19 @@ use Rattle.lol_program.proofs.Indexing.{nowhere_by_key, index_from_differ}
 use Rattle.lol_program.proofs.node_index.NodeIndex.index_by_key.Goals as goal
 use Rattle.lol_program.proofs.node_index.NodeIndex.index_by_key.Goals.{else-index-nodes-via-then-index-nodes+else-is_of, else-index-nodes-via-else-index-nodes}
 
-pub returns-in_default-clause-none : goal.returns-in_default-clause-none
-returns-in_default-clause-none c =
+pub returns-in_err-index-clause-none : goal.returns-in_err-index-clause-none
+returns-in_err-index-clause-none c =
     let node_index = c.args.self.now in
     let list = c.args.list.now in
     let first = tests_of_compound c.args.compound.now in
     let salt = c.loop-salt.salt in
-    let free : at_key node_index (node_key list salt first) ≡ None = ap (at_key node_index) (sym c.node_key.ensures) ∙ sym c.get.ensures.value ∙ sym c.copied.ensures ∙ c.in_default.is in
-    nowhere_by_key node_index list first (map node_of c.args.nodes.now) salt (omega arith) c.requires.indexed free c.loop-salt.invariant
+    let free : at_key node_index (node_key list salt first) ≡ None = ap (at_key node_index) (sym c.node_key.ensures) ∙ sym c.get.ensures.value ∙ sym c.copied.ensures ∙ c.in_err-index.was in
+    rw c.from_residual.ensures (nowhere_by_key node_index list first (map node_of c.args.nodes.now) salt (omega arith) c.requires.indexed free c.loop-salt.invariant)
 
 pub returns-then-is_of-clause-some : goal.returns-then-is_of-clause-some
 returns-then-is_of-clause-some c =
     let nodes = c.args.nodes.now in
-    let index = c.in-Some.index in
+    let index = c.in_ok-index.index in
     let node = c.index-nodes-index.result in
     let within : index < length (map node_of nodes) = omega (arith, c.if-index-nodes.true, length-map nodes node_of) in
     index_from_differ (tests_of_compound c.args.compound.now) (map node_of nodes) index c.requires.differ within
@@ -30,10 +30,10 @@ pub loop-salt-preserved : goal.loop-salt-preserved
 loop-salt-preserved c =
     let node_index = c.args.self.now in
     let nodes = c.args.nodes.now in
-    let index = c.in-Some.index in
+    let index = c.in_ok-index.index in
     let first = tests_of_compound c.args.compound.now in
     let key = node_key c.args.list.now c.loop-salt.salt first in
-    let there : at_key node_index key ≡ Some index = ap (at_key node_index) (sym c.node_key.ensures) ∙ sym c.get.ensures.value ∙ sym c.copied.ensures ∙ c.in-Some.is in
+    let there : at_key node_index key ≡ Some index = ap (at_key node_index) (sym c.node_key.ensures) ∙ sym c.get.ensures.value ∙ sym c.copied.ensures ∙ c.in_ok-index.was in
     below_more _ _ c.loop-salt.invariant
     (λ i d at within is.
     let same : i ≡ index = cc (at, there) in
