@@ -1,4 +1,4 @@
-use Rattle.std.proofs.Common.{rules, ◌≡◌, ◌≤◌, List, Bool, length, vec_capacity, Err, true, false, true≢false, refl, sym, ap, subst, ◌∙◌, map}
+use Rattle.std.proofs.Common.{rules, ◌≡◌, ◌≤◌, List, Bool, length, vec_capacity, Err, true, refl, sym, ap, subst, ◌∙◌, map}
 use Rattle.std.proofs.lemmas.Fn.{chained_keeps}
 use Rattle.lol_base.specs.LocalNames.{local_name}
 use Rattle.lol_base.specs.StartTags.{StartTag}
@@ -90,11 +90,7 @@ returns-in-Err-Memory-clause-refused g c = λ s esi events tag runs named spaced
     let is = c.in-Err-Memory.is ∙ ap Err c.in-Err-Memory.field-0-is in
     let charged = charged_for laws.depths laws.counts laws.ordered s esi events c.args.vm.now c.args.limiter.now runs in
     let room = has_place laws.depths laws.counts laws.ordered s esi events c.args.vm.now c.args.limiter.now runs tag (has_room c.args.vm.now runs.stands.unfailed _ call.full (other_answer is (λ same. cc))) in
-    refused_for_memory s esi charged tag room (λ no_memory opening limited. c.in-Err-Memory.ensures.due limited s esi events tag runs.stands (c.new-local_name.ensures ∙ ap local_name (sym named), spaced) no_memory c.in-Err-Memory.field-0-is)
-
-pub returns-in-Err-Failed-clause-refused : goal.returns-in-Err-Failed-clause-refused
-returns-in-Err-Failed-clause-refused g c = λ s esi events tag runs named spaced rest.
-    absurd (true≢false (sym (c.exec_for_whole_start_tag.ensures.failed.exactly.0 (c.in-Err-Failed.is ∙ ap Err c.in-Err-Failed.field-0-is)) ∙ runs.stands.unfailed))
+    refused_for_memory s esi charged tag room (λ no_memory opening limited. call.due _ is limited s esi events tag runs.stands (c.new-local_name.ensures ∙ ap local_name (sym named), spaced) no_memory)
 
 pub returns-in-Ok-clause-tried : goal.returns-in-Ok-clause-tried
 returns-in-Ok-clause-tried g c = λ s esi events tag runs named spaced rest.
