@@ -15,7 +15,7 @@ use Rattle.lol_css.specs.declared.selectors.logical.LogicalCombination.{LogicalC
 use Rattle.lol_css.specs.declared.error.SelectorError.{SelectorError}
 use Rattle.lol_css.specs.declared.error.SelectorError.TheVariants as errors
 use Rattle.lol_css.proofs.Shorter.{InnerLeaves, part-takes, item-leaves}
-use Rattle.lol_css.proofs.Spaces.{fails, then-fails}
+use Rattle.lol_css.proofs.Spaces.{fails}
 
 -- ---- causes
 
@@ -447,7 +447,7 @@ logical-fails combination read cause left h =
 -- ---- what the code's answers cite
 
 pub not_empty-fails : (empty : SelectorError) (read : Read (Judged trees.WrittenCompound)) (cause : SelectorError) (left : List Token) → FailsUnlessMemory cause left read → FailsUnlessMemory cause left (not_empty empty read)
-not_empty-fails empty read cause left h = then-fails cause left read (λ x. cond (is_empty x.0) (refused empty x.1) (Ok x)) h
+not_empty-fails empty read cause left h = fails-along cause left read (not_empty empty read) (λ e. rw e refl) h
 
 pub not_empty-refused : (empty : SelectorError) (read : Read (Judged trees.WrittenCompound)) (parts : Judged trees.WrittenCompound) (rest : List Token) → read ≡ Ok (parts, rest) → is_empty parts ≡ true → not_empty empty read ≡ refused empty rest
 not_empty-refused empty read parts rest e h = rw (e, h) refl

@@ -1,7 +1,7 @@
 -- Skipping white space among tokens.
 use Rattle.std.proofs.Common.{◌≡◌, List, [], ◌∷◌, false, refl}
 use Rattle.lol_css.specs.Tokens.{Token, Space}
-use Rattle.lol_css.specs.Rules.{Read, refused, skip_space, is_space, ◌>>=◌}
+use Rattle.lol_css.specs.Rules.{Read, refused, skip_space, is_space}
 use Rattle.lol_css.specs.Views.{FailsUnlessMemory}
 use Rattle.lol_css.specs.declared.error.SelectorError.{SelectorError}
 use Rattle.lol_css.specs.declared.error.SelectorError.TheVariants as errors
@@ -35,20 +35,3 @@ fails errors.InvalidClassName left read h = h
 fails errors.EmptyNegation left read h = h
 fails (errors.UnsupportedCombinator c) left read h = h
 fails errors.UnsupportedSyntax left read h = h
-
--- what fails at first fails at last
-pub then-fails : {A B : Type 0} (cause : SelectorError) (left : List Token) (read : Read A) (f : A × List Token → Read B) → FailsUnlessMemory cause left read → FailsUnlessMemory cause left (read >>= f)
-then-fails errors.Memory left read f h = tt
-then-fails errors.UnexpectedToken left read f h = rw h refl
-then-fails errors.UnexpectedEnd left read f h = rw h refl
-then-fails errors.MissingAttributeName left read f h = rw h refl
-then-fails errors.EmptySelector left read f h = rw h refl
-then-fails errors.DanglingCombinator left read f h = rw h refl
-then-fails errors.UnexpectedTokenInAttribute left read f h = rw h refl
-then-fails errors.UnsupportedPseudoClassOrElement left read f h = rw h refl
-then-fails errors.NestedNegation left read f h = rw h refl
-then-fails errors.NamespacedSelector left read f h = rw h refl
-then-fails errors.InvalidClassName left read f h = rw h refl
-then-fails errors.EmptyNegation left read f h = rw h refl
-then-fails (errors.UnsupportedCombinator c) left read f h = rw h refl
-then-fails errors.UnsupportedSyntax left read f h = rw h refl

@@ -97,8 +97,6 @@ pub struct ErrorLocation {
 
 impl fmt::Display for ErrorLocation {
     fn fmt<W: fmt::Write>(&self, f: &mut fmt::Formatter<W>) -> fmt::Result {
-        let item = self.item;
-        let offset = self.offset;
-        write!(f, "item {item}, byte {offset}")
+        write!(f, "item {}, byte {}", self.item, self.offset)
     }
 }

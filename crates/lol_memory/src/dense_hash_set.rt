@@ -104,14 +104,12 @@ impl DenseHashSet {
         Ok(())
     }
 
-    /// Whether there is room for each id of `other`.
     fn has_room_for(&self, other: &DenseHashSet) -> bool
         ensures { IsTrue result ↔ HasRoomFor self.now other.now }
     {
         other.iter().all(|id| self.has_room(id))
     }
 
-    /// Adds the ids of `other` in place.
     fn mark_each(&mut self, other: &DenseHashSet)
         requires { HasRoomFor self.old other.now }
         ensures { self.new ≡ joined self.old other.now }

@@ -8,7 +8,6 @@ ghost use Rattle.std.specs.Iterator.Runs.{YieldsInOrder};
 ghost use Rattle.std.specs.List.{remove_range};
 ghost use Rattle.lol_memory.specs.Limiter.{charged};
 ghost use Rattle.lol_memory.specs.LimitedVec.{pushed, with_items, more_slots, grown_slots, IsLimited};
-ghost use Rattle.lol_memory.specs.Slots.{minimum_slots as least_slots};
 
 use crate::limiter::{MemoryLimitExceededError, SharedMemoryLimiter};
 use std::alloc::{AllocError, Global};
@@ -179,7 +178,7 @@ impl<T> LimitedVec<T> {
             ⊎ (2 ^ 64 ≤ self.now.slots + more_slots self.now) }
     {
         let slots = self.vec.capacity();
-        let additional = slots.max(minimum_slots(self.item_bytes));
+        let additional = slots.max((128 / self.item_bytes).max(8));
         slots.checked_add(additional)?;
         let charge = additional.checked_mul(self.item_bytes)?;
         Some((additional, charge))
@@ -284,14 +283,6 @@ impl<'a, T: Drop> Iterator for Drain<'a, T> {
         }
         self.vec.pop()
     }
-}
-
-/// The fewest slots that a list has once it has any.
-fn minimum_slots(item_bytes: usize) -> usize
-    requires { 0 < item_bytes }
-    ensures { result ≡ least_slots item_bytes }
-{
-    (128 / item_bytes).max(8)
 }
 
 /// Moves a range to the back, its last element first.

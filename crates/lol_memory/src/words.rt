@@ -271,7 +271,6 @@ impl Words {
         Ok(Words::Sparse(words))
     }
 
-    /// Whether the words are the same.
     pub(crate) fn is_same(&self, other: &Words) -> bool
         requires form { IsInForm self.now }
         requires other_form { IsInForm other.now }
@@ -300,7 +299,6 @@ impl Words {
     }
 }
 
-/// How many of the words hold ids.
 pub(crate) fn count_held(words: &[u32]) -> usize
     ensures { result ≡ length (filter (λ word. not (nat_eq word 0)) words.now) }
 {

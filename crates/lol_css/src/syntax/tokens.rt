@@ -104,10 +104,8 @@ fn white_space(text: &[char]) -> Option<(char, &[char])>
     ensures value { Took (λ x. (x.0, x.1.now)) result (first_that is_white_space text.now) }
     ensures shorter { IfSome result (λ x. length x.1.now < length text.now) }
 {
-    match text {
-        [c, rest @ ..] if is_white_space(*c) => Some((*c, rest)),
-        _ => None,
-    }
+    let (c, rest) = text.split_first()?;
+    is_white_space(*c).then_some((*c, rest))
 }
 
 #[tactic(auto, unfolding(crate::specs::Tokens::space), using(crate::proofs::Loops::space_steps))]
@@ -167,10 +165,8 @@ fn decimal_digit(text: &[char]) -> Option<(char, &[char])>
     ensures value { Took (λ x. (x.0, x.1.now)) result (first_that is_decimal text.now) }
     ensures shorter { IfSome result (λ x. length x.1.now < length text.now) }
 {
-    match text {
-        [c, rest @ ..] if c.is_ascii_digit() => Some((*c, rest)),
-        _ => None,
-    }
+    let (c, rest) = text.split_first()?;
+    c.is_ascii_digit().then_some((*c, rest))
 }
 
 #[tactic(auto, using(crate::proofs::Loops::decimal_steps))]
