@@ -238,11 +238,9 @@ pub(crate) fn attribute<'a>(
     let name = name.to_lowercase_text(alloc)?;
     reader.skip_space();
     let part = comparison(alloc, name, reader)?;
+    let cause = SelectorError::NamespacedSelector;
     Ok(if any_namespace {
-        Err(Refusal {
-            cause: SelectorError::NamespacedSelector,
-            left,
-        })
+        Err(Refusal { cause, left })
     } else {
         Ok(part)
     })

@@ -36,6 +36,7 @@ pub(crate) fn ident_part<'a>(
     ensures { ReadsFirst (judgement part_of) result reader.now
         (giving judged_part (ident_part (points_of name.entry) reader.now)) }
 {
+    let cause = SelectorError::UnsupportedPseudoClassOrElement;
     let nth = NthChild::new(0, 1);
     if name.is_word("first-child") {
         return Ok(Ok(SimpleSelector::Nth {
@@ -47,12 +48,10 @@ pub(crate) fn ident_part<'a>(
         return Ok(Ok(SimpleSelector::Nth { of_type: true, nth }));
     }
     if is_late_word(name) {
-        return Ok(Err(Refusal {
-            cause: SelectorError::UnsupportedPseudoClassOrElement,
-            left: reader.rest(),
-        }));
+        let left = reader.rest();
+        return Ok(Err(Refusal { cause, left }));
     }
-    Err(SelectorError::UnsupportedPseudoClassOrElement)
+    Err(cause)
 }
 
 /// A pseudo-class whose argument is no list; the next token is its name with the parenthesis.
@@ -64,6 +63,7 @@ pub(crate) fn function_part<'a>(
     ensures { Reads (judgement part_of) result reader.new
         (giving judged_part (function_part (points_of name.entry) reader.old)) }
 {
+    let cause = SelectorError::UnsupportedPseudoClassOrElement;
     if name.is_word("nth-child") {
         reader.advance();
         let nth = an_plus_b(reader)?;
@@ -78,13 +78,10 @@ pub(crate) fn function_part<'a>(
         return Ok(Ok(SimpleSelector::Nth { of_type: true, nth }));
     }
     if name.is_word("nth-last-child") || name.is_word("nth-last-of-type") {
-        let late = Err(Refusal {
-            cause: SelectorError::UnsupportedPseudoClassOrElement,
-            left: reader.rest(),
-        });
+        let left = reader.rest();
         reader.advance();
         let _ = an_plus_b(reader)?;
-        return Ok(late);
+        return Ok(Err(Refusal { cause, left }));
     }
-    Err(SelectorError::UnsupportedPseudoClassOrElement)
+    Err(cause)
 }
