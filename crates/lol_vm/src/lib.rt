@@ -17,8 +17,7 @@ pub use lol_css::{
     SelectorsParser, SimpleSelector,
 };
 pub use lol_machine::{
-    AuxStartTagInfoRequest, SelectorMatchingVm, VmError, VmOf, laws, machine_laws,
-    vm_laws,
+    AuxStartTagInfoRequest, SelectorMatchingVm, VmError, VmOf, laws, machine_laws, vm_laws,
 };
 pub use lol_memory::{
     DenseHashSet, DenseHashSetIter, Drain, LimitedVec, MatchId, MatchInfo,
