@@ -1,5 +1,5 @@
 -- The lines that are written for the matches of a page.
-use Rattle.std.specs.Prelude.{ℕ, ◌-◌, Bool, ◌==◌, ◌||◌, if◌then◌else◌, List, [], ◌∷◌, ◌++◌, length, map, Option, Some, None, string_bytes, codes, decimal}
+use Rattle.std.specs.Prelude.{ℕ, ◌-◌, Bool, ◌==◌, ◌||◌, if◌then◌else◌, List, [], ◌∷◌, ◌++◌, get_or, length, map, Option, Some, None, string_bytes, codes, decimal}
 use Rattle.std.specs.List.{flat_map, join_with_byte}
 use Rattle.std.specs.Option.{option_map}
 use Rattle.std.specs.Str.{byte}
@@ -16,7 +16,7 @@ use Rattle.lol_page.specs.declared.page_reader.PlacedTag.{PlacedTag}
 use Rattle.lol_page.specs.PageMatches.{PageMatch}
 use Rattle.zugrenja.specs.Json.{json_member, json_string}
 use Rattle.zugrenja.specs.declared.arguments.Output.{Output}
-use Rattle.zugrenja.specs.declared.arguments.Output.TheVariants.{Tags, Ids, Count, Json, Attribute}
+use Rattle.zugrenja.specs.declared.arguments.Output.TheVariants.{Tags, Ids, Names, Count, Json, Attribute}
 use Rattle.zugrenja.specs.declared.lines.Style.{Style}
 
 -- a tag of a page that a reader gave, and what it is reported under
@@ -98,6 +98,14 @@ value_line prefix numbered line column matched (Some value) = text_line prefix n
 unfoldable pub numbers_line : List ℕ → ℕ → ℕ → List Match → List ℕ
 numbers_line prefix line column matched = place prefix line column ++ (numbers matched ++ line_feed ∷ [])
 
+-- the text of the selector of a number
+abbrev pub selector_of : Style → ℕ → List ℕ
+selector_of style number = get_or (map (λ text. string_bytes text) style.selectors.items) (number - 1) []
+
+-- `page:line:column: selector`
+abbrev pub name_line : Style → ℕ → ℕ → Match → List ℕ
+name_line style line column m = place (prefix_of style) line column ++ (in_one_line (selector_of style m.id) ++ line_feed ∷ [])
+
 unfoldable pub json_line : Option (List ℕ) → PageMatch → List ℕ
 json_line page m =
     codes "{" ++ (page_member page ++ (place_members m.tag ++ (selectors_member m.matched ++ (tag_member m.tag.text ++ (codes "}" ++ line_feed ∷ [])))))
@@ -105,6 +113,7 @@ json_line page m =
 abbrev pub line_in : Output → Style → PageMatch → List ℕ
 line_in Tags style m = text_line (prefix_of style) style.numbered m.tag.line m.tag.column m.matched m.tag.text
 line_in Ids style m = numbers_line (prefix_of style) m.tag.line m.tag.column m.matched
+line_in Names style m = flat_map (name_line style m.tag.line m.tag.column) m.matched
 line_in Count style m = []
 line_in Json style m = json_line (page_of style) m
 line_in (Attribute name) style m = value_line (prefix_of style) style.numbered m.tag.line m.tag.column m.matched (value_of style.decoded (string_bytes name) m.tag)

@@ -11,6 +11,8 @@ pub enum Output {
     Tags,
     /// The numbers of the selectors that match each.
     Ids,
+    /// The selectors that match each, one a line.
+    Names,
     /// How many there are.
     Count,
     /// A JSON object for each.
@@ -136,6 +138,7 @@ impl Arguments {
             "--raw" => self.settings.decoded = false,
             "--strict" => self.settings.strict = true,
             "--ids" => return self.set_output(Output::Ids, argument),
+            "--names" => return self.set_output(Output::Names, argument),
             "--count" => return self.set_output(Output::Count, argument),
             "--json" => return self.set_output(Output::Json, argument),
             "--attr" => {
@@ -143,7 +146,7 @@ impl Arguments {
                 return self.set_output(Output::Tags, argument);
             }
             "-f" => self.wanted = Wanted::SelectorFile,
-            "--tree" | "--names" | "--text" | "--why" => {
+            "--tree" | "--text" | "--why" => {
                 return Err(ArgumentError::NotYet(argument));
             }
             option if option.starts_with('-') => return Err(ArgumentError::Unknown(argument)),

@@ -1,8 +1,9 @@
 //! The lines of matches.
 
-ghost use Rattle.std.specs.Prelude.{◌≡◌, ◌++◌, ◌<◌, All, OnOk, codes, decimal, length, map, option_copied, false};
+ghost use Rattle.std.specs.Prelude.{◌≡◌, ◌++◌, ◌∷◌, [], ◌<◌, All, OnOk, codes, decimal, length, map, option_copied, false};
 ghost use Rattle.std.specs.Fmt.{digit_glyph};
 ghost use Rattle.std.specs.List.{flat_map};
+ghost use Rattle.lol_base.specs.CodePoints.{line_feed};
 ghost use Rattle.lol_base.specs.Names.{lowercased};
 ghost use Rattle.lol_base.specs.StartTags.{OutlineIsInside, attribute_of};
 ghost use Rattle.lol_instructions.specs.Attributes.{value_among};
@@ -10,12 +11,12 @@ ghost use Rattle.lol_page.specs.Readings.{with_text};
 ghost use Rattle.lol_page.specs.ValueLaws.{value_read};
 ghost use Rattle.lol_machine.specs.Views.{match_of};
 ghost use Rattle.zugrenja.specs.Json.{json_byte, json_string};
-ghost use Rattle.zugrenja.specs.Lines.{count_line, end_of, in_one_line, json_line, later_number, line_of, match_at, number_member, numbers, numbers_line, numbers_part, page_member, page_of, place, place_members, prefix_of, selectors_member, tag_member, text_line, value_line, value_of};
+ghost use Rattle.zugrenja.specs.Lines.{count_line, end_of, in_one_line, json_line, later_number, line_of, match_at, name_line, number_member, numbers, numbers_line, numbers_part, page_member, page_of, place, place_members, prefix_of, selector_of, selectors_member, tag_member, text_line, value_line, value_of};
 
 use crate::arguments::Output;
 use itoa::Buffer;
 use lol_base::{AttributeOutline, LocalName};
-use lol_matcher::MatchInfo;
+use lol_matcher::{MatchId, MatchInfo};
 use lol_page::PlacedTag;
 use lol_references::{append_decoded, has_ampersand};
 use lol_tags::push_outlines;
@@ -29,6 +30,8 @@ pub struct Style {
     pub decoded: bool,
     /// Whether the page is refused if it is ambiguous.
     pub strict: bool,
+    /// The selectors, each under its number, from 1.
+    pub selectors: Vec<String>,
     /// Whether the numbers of the selectors stand before the tags.
     pub numbered: bool,
     /// Whether the page's name stands before each line.
@@ -53,6 +56,7 @@ impl Style {
         match &self.output {
             Output::Tags => self.push_text(placed, text, matches, lines),
             Output::Ids => self.push_ids(placed, matches, lines),
+            Output::Names => self.push_names(placed, matches, lines),
             Output::Count => Ok(()),
             Output::Json => self.push_object(placed, text, matches, lines),
             Output::Attribute(name) => {
@@ -67,7 +71,9 @@ impl Style {
     {
         match &self.output {
             Output::Count => self.push_count(count, lines),
-            Output::Tags | Output::Ids | Output::Json | Output::Attribute(_) => Ok(()),
+            Output::Tags | Output::Ids | Output::Names | Output::Json | Output::Attribute(_) => Ok(
+                (),
+            ),
         }
     }
 
@@ -116,6 +122,49 @@ impl Style {
         push_numbers(matches, lines)?;
         lines.push(b'\n')?;
         Ok(())
+    }
+
+    /// Adds a line for each selector that matches.
+    fn push_names(
+        &self,
+        placed: &PlacedTag,
+        matches: &[MatchInfo],
+        lines: &mut Vec<u8>,
+    ) -> Result<(), AllocError>
+        ensures { OnOk result (lines.new.items ≡ lines.old.items
+            ++ flat_map (name_line self.now placed.now.line placed.now.column) (map match_of matches.now)) }
+    {
+        for found in matches {
+            self.push_name(placed, found.match_id, lines)?;
+        }
+        Ok(())
+    }
+
+    #[tactic(auto, using(std::proofs::lemmas::List::append_assoc))]
+    fn push_name(
+        &self,
+        placed: &PlacedTag,
+        number: MatchId,
+        lines: &mut Vec<u8>,
+    ) -> Result<(), AllocError>
+        ensures { OnOk result (lines.new.items ≡ lines.old.items
+            ++ (place (prefix_of self.now) placed.now.line placed.now.column
+            ++ (in_one_line (selector_of self.now number) ++ line_feed ∷ []))) }
+    {
+        self.push_place(placed, lines)?;
+        push_in_one_line(self.selector(number), lines)?;
+        lines.push(b'\n')?;
+        Ok(())
+    }
+
+    /// The selector of a number.
+    fn selector(&self, number: MatchId) -> &[u8]
+        ensures { result.now ≡ selector_of self.now number }
+    {
+        match self.selectors.get((number as usize).saturating_sub(1)) {
+            Some(selector) => selector.as_bytes(),
+            None => &[],
+        }
     }
 
     fn push_value(

@@ -15,13 +15,14 @@ use std::env;
 use std::process::ExitCode;
 
 const USAGE: &str =
-    "usage: zugrenja [--as-written] [--raw] [--strict] [--ids | --count | --json | --attr NAME] [-f FILE] SELECTOR.. [-- PAGE..]
+    "usage: zugrenja [--as-written] [--raw] [--strict] [--ids | --names | --count | --json | --attr NAME] [-f FILE] SELECTOR.. [-- PAGE..]
 
 Writes a line for each start tag that a selector matches: `line:column: <tag>`. Pages are read as they are written: no tree is built.
 
   --raw        character references in the values of attributes aren't decoded
   --strict     refuses a page where a browser's tree decides how text is read, as for <xmp> in a select
   --ids        the numbers of the selectors, from 1, in place of the tag
+  --names      the selectors that match, one a line, in place of the tag
   --count      the number of matches of each page
   --json       a JSON object for each match
   --attr NAME  the value of this attribute in place of the tag, where the tag has it

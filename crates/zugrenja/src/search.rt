@@ -31,6 +31,7 @@ pub fn search<R: Files + Input + Print + Eprint + AllocGlobal>(rt: &R, settings:
         numbered: selectors.len() > 1,
         named: pages.len() > 1,
         page: None,
+        selectors,
     };
     let mut matched = false;
     let mut failed = false;
@@ -40,7 +41,7 @@ pub fn search<R: Files + Input + Print + Eprint + AllocGlobal>(rt: &R, settings:
         } else {
             Some(page)
         };
-        match search_page(rt, &selectors, &style) {
+        match search_page(rt, &style) {
             Ok(count) => matched |= count > 0,
             Err(fault) => {
                 failed = true;
@@ -97,10 +98,9 @@ fn all_selectors<R: Files + Eprint + AllocGlobal>(
 
 fn search_page<R: Files + Input + Print + AllocGlobal>(
     rt: &R,
-    selectors: &[String],
     style: &Style,
 ) -> Result<u64, PageFault> {
-    let Ok(matcher) = build_matcher(rt.alloc(), selectors) else {
+    let Ok(matcher) = build_matcher(rt.alloc(), &style.selectors) else {
         return Err(PageFault::Page(PageError::Memory));
     };
     let mut writer = io::writer(rt);

@@ -28,15 +28,16 @@ fn written(
         output,
         decoded: true,
         strict: false,
+        selectors: strings(alloc, selectors).ok()?,
         numbered: selectors.len() > 1,
         named: page.is_some(),
         page,
     };
-    searched(alloc, &style, selectors, PAGE)
+    searched(alloc, &style, PAGE)
 }
 
-fn searched(alloc: Global, style: &Style, selectors: &[&str], page: &[u8]) -> Option<Vec<u8>> {
-    let matcher = build_matcher(alloc, &strings(alloc, selectors).ok()?).ok()?;
+fn searched(alloc: Global, style: &Style, page: &[u8]) -> Option<Vec<u8>> {
+    let matcher = build_matcher(alloc, &style.selectors).ok()?;
     let mut lines = Vec::new(alloc);
     write_page(alloc, matcher, style, &mut &*page, &mut lines).ok()?;
     Some(lines)
@@ -89,6 +90,15 @@ fn other_forms(rt: HostRuntime) -> Result<(), Fail> {
             b"2:1: 1,3\n4:25: 2\n4:29: 3\n"
         )
     );
+    assert!(rt;
+        is_written(
+            alloc,
+            Output::Names,
+            Some(String::from_str(alloc, "p")?),
+            &["a[title],\nb", "br", "[href]"],
+            b"p:2:1: a[title], b\np:2:1: [href]\np:4:25: br\np:4:29: [href]\n"
+        )
+    );
     assert!(rt; is_written(alloc, Output::Count, None, &["a"], b"2\n"));
     assert!(rt;
         is_written(
@@ -125,11 +135,12 @@ fn coded_value(alloc: Global, decoded: bool, selector: &str) -> Option<Vec<u8>> 
         output: Output::Attribute(String::from_str(alloc, "href").ok()?),
         decoded,
         strict: false,
+        selectors: strings(alloc, &[selector]).ok()?,
         numbered: false,
         named: false,
         page: None,
     };
-    searched(alloc, &style, &[selector], b"<a href='?b&amp;c'>")
+    searched(alloc, &style, b"<a href='?b&amp;c'>")
 }
 
 #[test]
@@ -155,11 +166,12 @@ fn counted(alloc: Global, strict: bool) -> Option<Vec<u8>> {
         output: Output::Count,
         decoded: true,
         strict,
+        selectors: strings(alloc, &["img"]).ok()?,
         numbered: false,
         named: false,
         page: None,
     };
-    searched(alloc, &style, &["img"], b"<select><xmp><img></xmp>")
+    searched(alloc, &style, b"<select><xmp><img></xmp>")
 }
 
 #[test]
