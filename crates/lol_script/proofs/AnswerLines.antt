@@ -88,7 +88,7 @@ module _ (p : Selectors) (s : Script) (events : List Event) where
 pub answered_more : (code later : ScriptRun) (s : Script) (run : AnswersScript code s) → code.matcher.failed ≡ false → later.matcher.failed ≡ false → later.shows_tries ≡ code.shows_tries → (event : Event)
     → (Hears run.selectors s (map told_event s.events) code.matcher → HasSelectors run.selectors s code.matcher.told.ast code.explained
     → Hears run.selectors s (map told_event s.events ++ told_event event ∷ []) later.matcher × HasSelectors run.selectors s later.matcher.told.ast later.explained
-    × (later.text.items ≡ code.text.items ++ text_for run.selectors s (document run.selectors s.esi (map told_event s.events)) (told_event event)))
+    × (later.written.text.items ≡ code.written.text.items ++ text_for run.selectors s (document run.selectors s.esi (map told_event s.events)) (told_event event)))
     → AnswersScript later (with_event s event)
 answered_more code later s run going still shows event goes =
     let before = subst (IsWritten run.selectors s code) going run.written in
@@ -120,7 +120,7 @@ answered_more code later s run going still shows event goes =
 pub refused_ends : (code later : ScriptRun) (s : Script) (run : AnswersScript code s) → code.matcher.failed ≡ false → later.matcher.failed ≡ true → later.shows_tries ≡ code.shows_tries → (event : Event) (cause : Cause)
     → (Hears run.selectors s (map told_event s.events) code.matcher → HasSelectors run.selectors s code.matcher.told.ast code.explained → (rest : List Event)
     → refused run.selectors s.esi (allowance 64 s.limit) (map told_event s.events ++ told_event event ∷ rest) ≡ Some (length (map told_event s.events), cause))
-    → later.text.items ≡ code.text.items ++ lines_of (shown_cause cause ∷ []) → AnswersScript later (with_event s event)
+    → later.written.text.items ≡ code.written.text.items ++ lines_of (shown_cause cause ∷ []) → AnswersScript later (with_event s event)
 refused_ends code later s run going ended shows event cause first text =
     let before = subst (IsWritten run.selectors s code) going run.written in
     let line = lines_of (shown_cause cause ∷ []) in
@@ -156,10 +156,10 @@ abbrev pub status_of : Bool → Status
 status_of true = Refused
 status_of false = Good
 
-pub written_whole : (code : ScriptRun) (s : Script) → AnswersScript code s → output_of (Ok s) ≡ record { text = code.text.items; status = status_of code.matcher.failed }
+pub written_whole : (code : ScriptRun) (s : Script) → AnswersScript code s → output_of (Ok s) ≡ record { text = code.written.text.items; status = status_of code.matcher.failed }
 written_whole code s run = sym (run.same s.events) ∙ by_end code.matcher.failed run.written
   where
-    by_end : (ended : Bool) → IsWritten run.selectors s code ended → output_for run.selectors s (map told_event s.events) ≡ record { text = code.text.items; status = status_of ended }
+    by_end : (ended : Bool) → IsWritten run.selectors s code ended → output_for run.selectors s (map told_event s.events) ≡ record { text = code.written.text.items; status = status_of ended }
     by_end true h = ap (λ (events : List Event). output_for run.selectors s (map told_event events)) (sym (append-nil s.events)) ∙ h []
     by_end false h =
         ap (run_output (texts_for run.selectors s empty (map told_event s.events))) h.0.fits

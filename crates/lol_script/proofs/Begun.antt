@@ -115,7 +115,7 @@ some_is P None some holds = absurd (let is = some in cc)
 some_is P (Some x) some holds = (x, refl, holds)
 
 module _ (told : AskedRunsAnswerAlike) (items : ItemsAnswerAsTexts) (reasons : ToldIsExplainedAlike) (code : ScriptRun) (settings : Settings) (tree : Ast) (with_rows : selectors tree ≡ with_rows_of settings) (s : Script) (reading : IsReading settings s)
-    (shows : code.shows_tries ≡ settings.shows_tries) (none : code.text.items ≡ []) where
+    (shows : code.shows_tries ≡ settings.shows_tries) (none : code.written.text.items ≡ []) where
   same : SameSelectors (selectors tree) (selectors_in s)
   same = subst (λ (t : Selectors). SameSelectors t (selectors_in s)) (sym with_rows) (same_selectors settings s reading)
 
@@ -125,7 +125,7 @@ module _ (told : AskedRunsAnswerAlike) (items : ItemsAnswerAsTexts) (reasons : T
       subst (λ (events : List Event). Hears p s (map told_event events) code.matcher) (sym reading.none)
       (subst (Hears p s []) (sym new) (record { esi = reading.esi; limit = reading.limit; bytes = refl; heard_is = refl; elements = refl; fits = refl }))
 
-  nothing_written : (p : Selectors) → code.text.items ≡ concat (texts_for p s empty (map told_event s.events))
+  nothing_written : (p : Selectors) → code.written.text.items ≡ concat (texts_for p s empty (map told_event s.events))
   nothing_written p = none ∙ ap (λ (events : List Event). concat (texts_for p s empty (map told_event events))) (sym reading.none)
 
   begins : (p : Selectors) (ast : Ast) → IsNewMatcher ast settings.limit settings.esi code.matcher → HasSelectors p s code.matcher.told.ast code.explained

@@ -1,12 +1,10 @@
 -- Lists with commas, which are written field by field.
-use Rattle.std.proofs.Common.{◌≡◌, ℕ, List, [], ◌∷◌, ◌++◌, map, refl, sym, ap, ◌∙◌}
+use Rattle.std.proofs.Common.{◌≡◌, ℕ, Bool, true, false, List, [], ◌∷◌, ◌++◌, map, refl, sym, ap, ◌∙◌}
 use Rattle.std.specs.List.{flat_map}
 use Rattle.std.specs.Prelude.{codes, decimal}
 use Rattle.std.proofs.lemmas.List.{append_assoc, append-nil}
-use Rattle.lol_script.specs.AnswerTexts.{HasListedAs}
+use Rattle.lol_script.specs.AnswerTexts.{HasListed}
 use Rattle.lol_script.specs.Output.{comma_list}
-use Rattle.lol_script.specs.declared.output.Filling.{Filling}
-use Rattle.lol_script.specs.declared.output.Filling.TheVariants.{Empty, Listed, Refused}
 use Rattle.lol_script.proofs.Reasons.{then_more}
 
 pub map_through : {A B C : Type 0} (f : B → C) (g : A → B) (xs : List A) → map (λ x. f (g x)) xs ≡ map f (map g xs)
@@ -24,30 +22,17 @@ listed_more x [] y = refl
 listed_more x (z ∷ xs) y =
     ap (λ rest. decimal x ++ 44 ∷ rest) (listed_more z xs y) ∙ sym (append_assoc (decimal x) (44 ∷ comma_list (map decimal (z ∷ xs))) (44 ∷ decimal y))
 
-pub first_listed : (before numbers : List ℕ) (y : ℕ) (old new : List ℕ) → HasListedAs before numbers Empty old → new ≡ old ++ decimal y → HasListedAs before (numbers ++ y ∷ []) Listed new
-first_listed before [] y old new has is = is ∙ ap (λ (t : List ℕ). t ++ decimal y) has
-first_listed before (x ∷ xs) y old new has is = absurd has
+pub first_listed : (before numbers : List ℕ) (y : ℕ) (has_some : Bool) (old new : List ℕ) → has_some ≡ false → HasListed before has_some numbers old → new ≡ old ++ decimal y → HasListed before true (numbers ++ y ∷ []) new
+first_listed before [] y has_some old new none has is = (refl, is ∙ ap (λ (t : List ℕ). t ++ decimal y) has.1)
+first_listed before (x ∷ xs) y has_some old new none has is = let some = has.0 in cc
 
-pub next_listed : (before numbers : List ℕ) (y : ℕ) (old new : List ℕ) → HasListedAs before numbers Listed old → new ≡ old ++ 44 ∷ decimal y → HasListedAs before (numbers ++ y ∷ []) Listed new
-next_listed before [] y old new has is = absurd has
-next_listed before (x ∷ xs) y old new has is =
-    is ∙ (ap (λ (t : List ℕ). t ++ 44 ∷ decimal y) has
-    ∙ (append_assoc before (comma_list (map decimal (x ∷ xs))) (44 ∷ decimal y) ∙ ap (λ (l : List ℕ). before ++ l) (sym (listed_more x xs y))))
-
-pub none_listed : (before numbers text : List ℕ) → HasListedAs before numbers Refused text
-none_listed before [] text = tt
-none_listed before (x ∷ xs) text = tt
-
--- the list, once it has come whole
-pub listed_whole : (before numbers : List ℕ) (filling : Filling) (old new : List ℕ) → HasListedAs before numbers filling old → (filling ≡ Empty → new ≡ old ++ 45 ∷ 10 ∷ []) → (filling ≡ Listed → new ≡ old ++ 10 ∷ []) → (filling ≡ Refused → ⊥)
-    → new ≡ before ++ (comma_list (map decimal numbers) ++ 10 ∷ [])
-listed_whole before [] Empty old new has none some refused = none refl ∙ ap (λ (t : List ℕ). t ++ 45 ∷ 10 ∷ []) has
-listed_whole before [] Listed old new has none some refused = absurd has
-listed_whole before (x ∷ xs) Empty old new has none some refused = absurd has
-listed_whole before (x ∷ xs) Listed old new has none some refused =
-    some refl ∙ (ap (λ (t : List ℕ). t ++ 10 ∷ []) has ∙ append_assoc before (comma_list (map decimal (x ∷ xs))) (10 ∷ []))
-listed_whole before [] Refused old new has none some refused = absurd (refused refl)
-listed_whole before (x ∷ xs) Refused old new has none some refused = absurd (refused refl)
+pub next_listed : (before numbers : List ℕ) (y : ℕ) (has_some : Bool) (old new : List ℕ) → has_some ≡ true → HasListed before has_some numbers old → new ≡ old ++ 44 ∷ decimal y → HasListed before true (numbers ++ y ∷ []) new
+next_listed before [] y has_some old new some has is = let none = has.0 in cc
+next_listed before (x ∷ xs) y has_some old new some has is = (
+  refl,
+  is ∙ (ap (λ (t : List ℕ). t ++ 44 ∷ decimal y) has.1
+      ∙ (append_assoc before (comma_list (map decimal (x ∷ xs))) (44 ∷ decimal y) ∙ ap (λ (l : List ℕ). before ++ l) (sym (listed_more x xs y)))),
+)
 
 -- the line of a start tag, written part by part
 pub start_written : (t0 t1 t2 t3 list rest : List ℕ) → t1 ≡ t0 ++ 115 ∷ 116 ∷ 97 ∷ 114 ∷ 116 ∷ 9 ∷ [] → t2 ≡ t1 ++ list → t3 ≡ t2 ++ (rest ++ 10 ∷ []) → t3 ≡ t0 ++ ((codes "start" ++ (9 ∷ list ++ rest)) ++ 10 ∷ [])

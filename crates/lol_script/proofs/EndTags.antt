@@ -54,7 +54,7 @@ documents_alike items p s ast (Some x) has events = (as_texts items p s ast x ha
 
 pub ended_more : ItemsAnswerAsTexts → DocumentsAreOrdered → (code later : ScriptRun) (s : Script) → AnswersScript code s → code.matcher.failed ≡ false → (name : List ℕ) → length (heard code.matcher.told) ≤ 2 ^ 64 - 1
     → later.shows_tries ≡ code.shows_tries → later.explained ≡ code.explained → later.matcher ≡ with_ended code.matcher name
-    → later.text.items ≡ code.text.items ++ lines_of ((codes "end" ++ 9 ∷ comma_list (map decimal (numbers_closed code.matcher.open_elements name))) ∷ [])
+    → later.written.text.items ≡ code.written.text.items ++ lines_of ((codes "end" ++ 9 ∷ comma_list (map decimal (numbers_closed code.matcher.open_elements name))) ∷ [])
     → AnswersScript later (with_event s (End name))
 ended_more items ordered code later s run going name few shows same ended written =
     answered_more code later s run going (ap (λ (m : M). m.failed) ended ∙ going) shows (End name) (λ hears has.
@@ -75,6 +75,6 @@ ended_more items ordered code later s run going name few shows same ended writte
         fits = fits_on run.selectors s.esi (allowance 64 s.limit) told hears.fits (End name) refl;
       }),
       subst (λ (o : Option Explained). HasSelectors run.selectors s later.matcher.told.ast o) (sym same) (subst (λ (ast : Ast). HasSelectors run.selectors s ast code.explained) (ap (λ (m : M). m.told.ast) (sym ended)) has),
-      written ∙ ap (λ (text : List ℕ). code.text.items ++ text)
+      written ∙ ap (λ (text : List ℕ). code.written.text.items ++ text)
           (ap (λ (ns : List ℕ). lines_of ((codes "end" ++ 9 ∷ comma_list (map decimal ns)) ∷ [])) (numbers ∙ ap (closed name) (sym documents)) ∙ end_text run.selectors s (document run.selectors s.esi told) name),
     ))

@@ -2,6 +2,7 @@ pub mod AnswerLines
 pub mod Answered
 pub mod Begun
 pub mod Commas
+pub mod Digits
 pub mod EndTags
 pub mod Fields
 pub mod Heard

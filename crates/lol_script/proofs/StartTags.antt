@@ -184,25 +184,25 @@ module _ (items : ItemsAnswerAsTexts) (code later : ScriptRun) (s : Script) (run
   told = map told_event s.events
 
   pub dropped_more : later.explained ≡ code.explained → IsStarted outcomes.Dropped (told_tag tag) code.matcher later.matcher
-      → later.text.items ≡ code.text.items ++ (codes "dropped" ++ 10 ∷ []) → AnswersScript later (with_event s (Start tag))
+      → later.written.text.items ≡ code.written.text.items ++ (codes "dropped" ++ 10 ∷ []) → AnswersScript later (with_event s (Start tag))
   dropped_more same is written = answered_more code later s run going is.goes_on.going shows (Start tag) (λ hears has. (
     hears_more items p s told (told_tag tag) code.matcher code.explained hears has outcomes.Dropped later.matcher is,
     subst (λ (o : Option Explained). HasSelectors p s later.matcher.told.ast o) (sym same) (subst (λ (ast : Ast). HasSelectors p s ast code.explained) (sym is.goes_on.ast) has),
-    written ∙ ap (λ (text : List ℕ). code.text.items ++ text) (dropped_text p s (document p s.esi told) (told_tag tag) (drops items p s told (told_tag tag) code.matcher later.matcher hears code.explained has is)),
+    written ∙ ap (λ (text : List ℕ). code.written.text.items ++ text) (dropped_text p s (document p s.esi told) (told_tag tag) (drops items p s told (told_tag tag) code.matcher later.matcher hears code.explained has is)),
   ))
 
   pub reported_more : (asked : Bool) → IsStarted (outcomes.Reported asked) (told_tag tag) code.matcher later.matcher → AreNumbered later.matcher.told
-      → IsReasoned later.matcher code.shows_tries asked code.text.items later.text.items code.explained later.explained → AnswersScript later (with_event s (Start tag))
+      → IsReasoned later.matcher code.shows_tries asked code.written.text.items later.written.text.items code.explained later.explained → AnswersScript later (with_event s (Start tag))
   reported_more asked is few reasoned = answered_more code later s run going is.goes_on.going shows (Start tag) (λ hears has.
       let on = by_reasons code.explained later.explained hears has reasoned in
       (hears_more items p s told (told_tag tag) code.matcher code.explained hears has (outcomes.Reported asked) later.matcher is, on.0, on.1))
     where
-      by_reasons : (before after : Option Explained) → Hears p s told code.matcher → HasSelectors p s code.matcher.told.ast before → IsReasoned later.matcher code.shows_tries asked code.text.items later.text.items before after
-          → HasSelectors p s later.matcher.told.ast after × (later.text.items ≡ code.text.items ++ text_for p s (document p s.esi told) (Start (told_tag tag)))
+      by_reasons : (before after : Option Explained) → Hears p s told code.matcher → HasSelectors p s code.matcher.told.ast before → IsReasoned later.matcher code.shows_tries asked code.written.text.items later.written.text.items before after
+          → HasSelectors p s later.matcher.told.ast after × (later.written.text.items ≡ code.written.text.items ++ text_for p s (document p s.esi told) (Start (told_tag tag)))
       by_reasons None None hears has reasoned = (
         (has.0, has.1 ∙ ap (λ (ast : Ast). selectors ast) (sym is.goes_on.ast)),
         reasoned.1
-            ∙ ap (λ (text : List ℕ). code.text.items ++ text)
+            ∙ ap (λ (text : List ℕ). code.written.text.items ++ text)
             (plain_line p s (document p s.esi told) (told_tag tag) code.shows_tries _ has.0 run.shows_tries
             (ap (λ (q : Selectors). answer q s.esi (document q s.esi told) (Start (told_tag tag))) has.1 ∙ own_answer items p s told (told_tag tag) code.matcher None hears has (outcomes.Reported asked) later.matcher is)),
       )
@@ -212,10 +212,10 @@ module _ (items : ItemsAnswerAsTexts) (code later : ScriptRun) (s : Script) (run
           let there = subst (λ (ast : Ast). Explains x s ast) (sym is.goes_on.ast) has.3 in
           let done = reasoned s there is.goes_on.going few in (
             (has.0, has.1, ap is_with_rows is.goes_on.ast ∙ has.2, done.0),
-            done.1 ∙ ap (λ (text : List ℕ). code.text.items ++ text) (explained_line items p s told (told_tag tag) code.matcher later.matcher hears asked is x has code.shows_tries run.shows_tries),
+            done.1 ∙ ap (λ (text : List ℕ). code.written.text.items ++ text) (explained_line items p s told (told_tag tag) code.matcher later.matcher hears asked is x has code.shows_tries run.shows_tries),
           )
 
-  pub stopped_more : (cause : Cause) → IsStopped cause (told_tag tag) code.matcher later.matcher → later.text.items ≡ code.text.items ++ lines_of (shown_cause cause ∷ [])
+  pub stopped_more : (cause : Cause) → IsStopped cause (told_tag tag) code.matcher later.matcher → later.written.text.items ≡ code.written.text.items ++ lines_of (shown_cause cause ∷ [])
       → AnswersScript later (with_event s (Start tag))
   stopped_more cause is written =
       refused_ends code later s run going (ap (λ (m : M). m.failed) is.after) shows (Start tag) cause

@@ -1,13 +1,11 @@
 -- Lines of answers, as they are written part by part.
-use Rattle.std.specs.Prelude.{◌≡◌, ℕ, Bool, true, List, [], ◌∷◌, ◌++◌, map, Option, Some, None, codes, decimal, if◌then◌else◌}
+use Rattle.std.specs.Prelude.{◌≡◌, ℕ, Bool, false, true, IfOk, List, [], ◌∷◌, ◌++◌, map, Option, Some, None, codes, decimal, if◌then◌else◌}
+use Rattle.lol_script.specs.declared.output.Written.{Written}
 use Rattle.lol_base.specs.CodePoints.{tab}
 use Rattle.lol_instructions.specs.Tries.{names_counted, attributes_counted}
 use Rattle.lol_instructions.specs.declared.tries.Tries.{Tries}
 use Rattle.lol_machine.specs.Answers.{Match}
 use Rattle.lol_script.specs.Output.{comma_list, shown_match, tries_field}
-use Rattle.lol_script.specs.declared.output.ClosedList.{ClosedList}
-use Rattle.lol_script.specs.declared.output.Filling.{Filling}
-use Rattle.lol_script.specs.declared.output.Filling.TheVariants.{Empty, Listed, Refused}
 
 -- the field of the tries, if they are shown
 abbrev pub tries_shown : Option Tries → List ℕ
@@ -22,15 +20,11 @@ end_of_start asked tries = (if asked then tab ∷ codes "asked" else []) ++ trie
 abbrev pub started_text : List Match → Bool → Option Tries → List ℕ
 started_text matched asked tries = codes "start" ++ (tab ∷ comma_list (map shown_match matched) ++ end_of_start asked tries)
 
--- The list has come so far, by how far it was filled.
-abbrev pub HasListedAs : List ℕ → List ℕ → Filling → List ℕ → Type 0
-HasListedAs before [] Empty text = text ≡ before
-HasListedAs before [] Listed text = ⊥
-HasListedAs before [] Refused text = Unit {0}
-HasListedAs before (number ∷ numbers) Empty text = ⊥
-HasListedAs before (number ∷ numbers) Listed text = text ≡ before ++ comma_list (map decimal (number ∷ numbers))
-HasListedAs before (number ∷ numbers) Refused text = Unit {0}
+-- Behind a text these numbers are listed, some or none.
+abbrev pub HasListed : List ℕ → Bool → List ℕ → List ℕ → Type 0
+HasListed before has_some [] text = (has_some ≡ false) × (text ≡ before)
+HasListed before has_some (number ∷ numbers) text = (has_some ≡ true) × (text ≡ before ++ comma_list (map decimal (number ∷ numbers)))
 
--- Behind a text these numbers are listed, unless memory was refused for one.
-abbrev pub HasListed : List ℕ → List ℕ → ClosedList → Type 0
-HasListed before numbers list = HasListedAs before numbers list.filling list.text.items
+-- The same, unless memory was refused for one.
+abbrev pub IsListing : List ℕ → List ℕ → Written → Type 0
+IsListing before numbers written = IfOk written.listed (λ has_some. HasListed before has_some numbers written.text.items)

@@ -115,9 +115,9 @@ HasSelectors p s ast (Some explained) = (s.explains ≡ true) × (p ≡ selector
 abbrev pub IsWritten : Selectors → Script → ScriptRun → Bool → Type 0
 IsWritten p s code false =
     Hears p s (map told_event s.events) code.matcher × HasSelectors p s code.matcher.told.ast code.explained
-    × (code.text.items ≡ concat (texts_for p s empty (map told_event s.events)))
+    × (code.written.text.items ≡ concat (texts_for p s empty (map told_event s.events)))
 IsWritten p s code true =
-    (later : List Event) → output_for p s (map told_event (s.events ++ later)) ≡ record { text = code.text.items; status = status.Refused }
+    (later : List Event) → output_for p s (map told_event (s.events ++ later)) ≡ record { text = code.written.text.items; status = status.Refused }
 
 -- The code has answered the events of a script.
 pub record AnswersScript (code : ScriptRun) (s : Script) : Type 0 where

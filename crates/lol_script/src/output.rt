@@ -1,32 +1,23 @@
 //! The lines of a run as they are written.
 
-ghost use Rattle.std.specs.Prelude.{◌≡◌, ◌∷◌, [], ◌++◌, ◌≤◌, List, ℕ, IfOk, OnOk, decimal, flat_map, map, reverse, true};
+ghost use Rattle.std.specs.Prelude.{◌≡◌, ◌∷◌, [], ◌++◌, ◌+◌, ◌/◌, ◌%◌, ◌<◌, ◌≤◌, List, ℕ, IfOk, OnOk, decimal, flat_map, map, reverse, true};
 ghost use Rattle.std.specs.Str.{byte};
 ghost use Rattle.lol_base.specs.CodePoints.{line_feed};
 ghost use Rattle.lol_instructions.specs.Tries.{names_counted, attributes_counted};
 ghost use Rattle.lol_reasons.specs.Numbered.{reason_shown};
 ghost use Rattle.lol_machine.specs.Views.{match_of};
-ghost use Rattle.lol_script.specs.AnswerTexts.{HasListed, HasListedAs, end_of_start, started_text};
+ghost use Rattle.lol_script.specs.AnswerTexts.{HasListed, IsListing, end_of_start, started_text};
 ghost use Rattle.lol_script.specs.Output.{comma_list, shown_match, shown_reason, tries_field};
 
 use itoa::Buffer;
 use lol_matcher::{MatchId, MatchInfo, Reason, Tries};
-use std::alloc::AllocError;
+use std::alloc::{AllocError, Global};
 
-/// How far the list of an end tag's line has come.
-#[derive(Clone, Copy)]
-enum Filling {
-    Empty,
-    Listed,
-    /// Memory was refused for a number.
-    Refused,
-}
-
-/// The list of an end tag's line, whose numbers come one by one, behind a text.
+/// What is written, and how far the list of the last end tag has come: whether it has some numbers, unless memory was refused for one.
 #[derive(Drop)]
-pub struct ClosedList {
-    text: Vec<u8>,
-    filling: Filling,
+pub struct Written {
+    pub text: Vec<u8>,
+    pub listed: Result<bool, AllocError>,
 }
 
 /// Adds what a start tag is reported under, separated by commas, or `-` where that is nothing. Most lists end with their first.
@@ -89,70 +80,59 @@ fn push_id(text: &mut Vec<u8>, id: MatchId, with_content: bool) -> Result<(), Al
     Ok(())
 }
 
-impl ClosedList {
-    /// A list behind a text, before its first number.
-    #[inline(always)]
-    pub fn new(text: Vec<u8>) -> Self
-        ensures { HasListed text.items [] result }
+impl Written {
+    /// Nothing.
+    pub fn new(alloc: Global) -> Self
+        ensures { result.text.items ≡ [] }
     {
-        ClosedList {
-            text,
-            filling: Filling::Empty,
+        Written {
+            text: Vec::new(alloc),
+            listed: Ok(false),
         }
     }
 
-    /// Adds the number of a closed element.
+    /// Adds the number of a closed element to the list.
     #[inline(always)]
     pub fn push(&mut self, number: usize)
-        ensures { (before numbers : List ℕ) → HasListed before numbers self.old
-            → HasListed before (numbers ++ number ∷ []) self.new }
+        ensures { (before numbers : List ℕ) → IsListing before numbers self.old
+            → IsListing before (numbers ++ number ∷ []) self.new }
     {
-        match push_listed(&mut self.text, self.filling, number) {
-            Ok(()) => self.filling = Filling::Listed,
-            Err(_) => self.filling = Filling::Refused,
+        if let Ok(has_some) = self.listed {
+            self.listed = push_listed(&mut self.text, has_some, number);
         }
     }
 
-    /// The text with the whole list, and the end of its line, unless memory was refused.
+    /// Ends the list and its line, unless memory was refused.
     #[inline(always)]
-    pub fn finish(self) -> Result<Vec<u8>, AllocError>
-        ensures { IfOk result (λ text. (before numbers : List ℕ) → HasListed before numbers self
-            → text.items ≡ before ++ (comma_list (map decimal numbers) ++ line_feed ∷ [])) }
+    pub fn end_list(&mut self) -> Result<(), AllocError>
+        ensures kept { self.new ≡ record self.old { text = self.new.text } }
+        ensures text { OnOk result ((before numbers : List ℕ) → IsListing before numbers self.old
+            → self.new.text.items ≡ before ++ (comma_list (map decimal numbers) ++ line_feed ∷ [])) }
     {
-        let ClosedList { mut text, filling } = self;
-        match filling {
-            Filling::Empty => text.extend_from_slice(b"-\n")?,
-            Filling::Listed => text.push(b'\n')?,
-            Filling::Refused => return Err(AllocError),
+        if !self.listed? {
+            return self.text.extend_from_slice(b"-\n");
         }
-        Ok(text)
+        self.text.push(b'\n')?;
+        Ok(())
     }
 }
 
-/// Adds a number to a list that has come so far.
+/// Adds a number to a list that has some or none: then it has some.
 #[inline(always)]
-fn push_listed(text: &mut Vec<u8>, filling: Filling, number: usize) -> Result<(), AllocError>
-    ensures { OnOk result ((before numbers : List ℕ) → HasListedAs before numbers filling text.old.items
-        → HasListedAs before (numbers ++ number ∷ []) Filling.Listed text.new.items) }
+fn push_listed(text: &mut Vec<u8>, has_some: bool, number: usize) -> Result<bool, AllocError>
+    ensures { IfOk result (λ more. (before numbers : List ℕ) → HasListed before has_some numbers text.old.items
+        → HasListed before more (numbers ++ number ∷ []) text.new.items) }
 {
-    match filling {
-        Filling::Empty => push_number(text, number as u64),
-        Filling::Listed => push_after_comma(text, number),
-        Filling::Refused => Err(AllocError),
+    if has_some {
+        text.push(b',')?;
     }
-}
-
-/// Adds a number after a comma.
-#[inline(always)]
-fn push_after_comma(text: &mut Vec<u8>, number: usize) -> Result<(), AllocError>
-    ensures { OnOk result (text.new.items ≡ text.old.items ++ byte "," ∷ decimal number) }
-{
-    text.push(b',')?;
-    push_number(text, number as u64)
+    push_number(text, number as u64)?;
+    Ok(true)
 }
 
 /// Adds a number in decimal digits. Most have one.
 #[tactic(auto, using(std::proofs::lemmas::Fmt::decimal_digit))]
+#[cycle(digits)]
 #[inline(always)]
 pub fn push_number(text: &mut Vec<u8>, number: u64) -> Result<(), AllocError>
     ensures { OnOk result (text.new.items ≡ text.old.items ++ decimal number) }
@@ -165,16 +145,32 @@ pub fn push_number(text: &mut Vec<u8>, number: u64) -> Result<(), AllocError>
 }
 
 /// Adds a number of several digits.
+#[cycle(digits)]
+#[inline(never)]
 fn push_digits(text: &mut Vec<u8>, number: u64) -> Result<(), AllocError>
     requires { 10 ≤ number }
     ensures { OnOk result (text.new.items ≡ text.old.items ++ decimal number) }
 {
     if number < 100 {
-        let digits = [b'0' + (number / 10) as u8, b'0' + (number % 10) as u8];
-        return text.extend_from_slice(&digits);
+        return text.extend_from_slice(&two_digits(number));
     }
-    let mut buffer = Buffer::new();
-    text.extend_from_slice(buffer.format(number).as_bytes())
+    if number < 10_000 {
+        push_number(text, number / 100)?;
+        return text.extend_from_slice(&two_digits(number % 100));
+    }
+    push_number(text, number / 10_000)?;
+    let [a, b] = two_digits(number % 10_000 / 100);
+    let [c, d] = two_digits(number % 100);
+    text.extend_from_slice(&[a, b, c, d])
+}
+
+/// The digits of a number below 100, with a leading zero.
+#[inline(always)]
+fn two_digits(number: u64) -> [u8; 2]
+    requires { number < 100 }
+    ensures { result ≡ (48 + number / 10) ∷ (48 + number % 10) ∷ [] }
+{
+    [b'0' + (number / 10) as u8, b'0' + (number % 10) as u8]
 }
 
 /// Adds the number of a line.

@@ -7,7 +7,7 @@ ghost use Rattle.lol_program.specs.Asts.{is_with_rows};
 ghost use Rattle.lol_machine.specs.Events.{Start, End};
 ghost use Rattle.lol_machine.specs.Refusals.{Cause};
 ghost use Rattle.lol_script.specs.Answering.{AnswersScript, ForAnswers, HasTags, IsCauseOf, IsNewMatcher, IsStarted, IsStopped, IsTagIfFirst, numbers_closed, told_tag};
-ghost use Rattle.lol_script.specs.AnswerTexts.{HasListed, tries_shown};
+ghost use Rattle.lol_script.specs.AnswerTexts.{IsListing, tries_shown};
 ghost use Rattle.lol_script.specs.Explaining.{Explains, IsReasoned};
 ghost use Rattle.lol_script.specs.Lines.{AreOutlinesOf, start_tag_of};
 ghost use Rattle.lol_script.specs.Output.{lines_of, tries_field};
@@ -19,7 +19,7 @@ ghost use Rattle.lol_script.specs.SelectLines.{KeepsLines};
 use crate::device::RunFault;
 use crate::explained::Explained;
 use crate::lines::{Line, StartLine, after_kind, end_of, other_line, start_of};
-use crate::output::{ClosedList, push_line, push_started};
+use crate::output::{Written, push_line, push_started};
 use crate::program::Status;
 use crate::select_lines::SelectLines;
 use crate::settings::{Settings, Stop, malformed, with_rows_from};
@@ -30,7 +30,6 @@ use lol_matcher::laws::{calls_answer_alike, items_answer_as_texts, told_is_expla
 use lol_matcher::{Matcher, MatcherError, OpenElement, Started, Tries};
 use lol_program::Ast;
 use std::alloc::{AllocError, Global};
-use std::mem;
 
 /// A matcher over the tags of a script, and what is written for those that were answered.
 #[derive(Drop)]
@@ -43,7 +42,7 @@ pub struct ScriptRun {
     explained: Option<Explained>,
 
     /// What is written, the refusal too.
-    text: Vec<u8>,
+    written: Written,
 
     /// The attributes of a tag's line.
     outlines: AttributeBuffer,
@@ -83,7 +82,7 @@ impl ScriptRun {
             matcher,
             shows_tries,
             explained,
-            text: Vec::new(alloc),
+            written: Written::new(alloc),
             outlines: AttributeBuffer::new(alloc),
         })
     }
@@ -100,7 +99,7 @@ impl ScriptRun {
         }
         if let Some(rest) = after_kind(line, b"start") {
             return match start_of(rest, true, &mut self.outlines) {
-                Ok(Some(start)) => in_memory(self.take_start(start)),
+                Ok(Some(start)) => in_memory(self.take_start(&start)),
                 Ok(None) => Err(malformed(number)),
                 Err(_) => Err(Stop::Fault(RunFault::Memory)),
             };
@@ -112,7 +111,7 @@ impl ScriptRun {
             };
         }
         match other_line(line, &mut self.outlines) {
-            Ok(Some(Line::Start(start))) => in_memory(self.take_start(start)),
+            Ok(Some(Line::Start(start))) => in_memory(self.take_start(&start)),
             Ok(Some(Line::End { name })) => in_memory(self.take_end(name)),
             Ok(None) | Ok(Some(Line::Setting(_))) => Err(malformed(number)),
             Err(_) => Err(Stop::Fault(RunFault::Memory)),
@@ -120,10 +119,10 @@ impl ScriptRun {
     }
 
     /// Answers a start tag, whose attributes were cut, unless a tag was refused.
-    fn take_start(&mut self, line: StartLine<'_>) -> Result<(), AllocError>
-        requires { AreOutlinesOf line.attributes self.old.outlines.items }
+    fn take_start(&mut self, line: &StartLine<'_>) -> Result<(), AllocError>
+        requires { AreOutlinesOf line.now.attributes self.old.outlines.items }
         ensures { OnOk result (ForAnswers self.old (λ s.
-            AnswersScript self.new (with_event s (Start (start_tag_of line.entry))))) }
+            AnswersScript self.new (with_event s (Start (start_tag_of line.now))))) }
     {
         if self.matcher.has_failed() {
             return Ok(());
@@ -133,7 +132,7 @@ impl ScriptRun {
         }
         items_answer_as_texts();
         match answer_start(&mut self.matcher, line, &self.outlines) {
-            Ok(Outcome::Dropped) => push_line(&mut self.text, b"dropped"),
+            Ok(Outcome::Dropped) => push_line(&mut self.written.text, b"dropped"),
             Ok(Outcome::Reported { asked }) => self.push_answer(asked),
             Err(error) => self.refuse(error),
         }
@@ -142,15 +141,21 @@ impl ScriptRun {
     /// Adds the line of a start tag that was reported, and those of its reasons, if they are shown.
     #[inline(always)]
     fn push_answer(&mut self, asked: bool) -> Result<(), AllocError>
-        ensures kept { self.new ≡ record self.old { text = self.new.text; explained = self.new.explained } }
+        ensures kept { self.new ≡ record self.old { written = self.new.written; explained = self.new.explained } }
         ensures text { OnOk result (IsReasoned self.old.matcher self.old.shows_tries asked
-            self.old.text.items self.new.text.items self.old.explained self.new.explained) }
+            self.old.written.text.items self.new.written.text.items self.old.explained self.new.explained) }
     {
         let tries = self.shown_tries();
         match &mut self.explained {
-            None => push_started(&mut self.text, self.matcher.matches(), asked, tries),
+            None => push_started(&mut self.written.text, self.matcher.matches(), asked, tries),
             Some(explained) => {
-                explained.push_started(self.alloc, &mut self.text, &self.matcher, asked, tries)
+                explained.push_started(
+                    self.alloc,
+                    &mut self.written.text,
+                    &self.matcher,
+                    asked,
+                    tries,
+                )
             }
         }
     }
@@ -170,13 +175,16 @@ impl ScriptRun {
 
     /// Says why a start tag was refused.
     fn refuse(&mut self, error: MatcherError) -> Result<(), AllocError>
-        ensures kept { self.new ≡ record self.old { text = self.new.text } }
+        ensures kept { self.new ≡ record self.old { written = self.new.written } }
         ensures text { OnOk result ((cause : Cause) × IsCauseOf error cause
-            × (self.new.text.items ≡ self.old.text.items ++ lines_of (shown_cause cause ∷ []))) }
+            × (self.new.written.text.items ≡ self.old.written.text.items ++ lines_of (shown_cause cause ∷ []))) }
     {
         match error {
-            MatcherError::MemoryLimitExceeded => push_line(&mut self.text, b"refused limit"),
-            MatcherError::CounterFull => push_line(&mut self.text, b"refused counter"),
+            MatcherError::MemoryLimitExceeded => push_line(
+                &mut self.written.text,
+                b"refused limit",
+            ),
+            MatcherError::CounterFull => push_line(&mut self.written.text, b"refused counter"),
             MatcherError::Memory
             | MatcherError::Failed
             | MatcherError::NotAsked
@@ -196,11 +204,10 @@ impl ScriptRun {
         }
         items_answer_as_texts();
         documents_are_ordered();
-        self.text.extend_from_slice(b"end\t")?;
-        let mut list = ClosedList::new(mem::replace(&mut self.text, Vec::new(self.alloc)));
-        close(&mut self.matcher, name, &mut list);
-        self.text = list.finish()?;
-        Ok(())
+        self.written.text.extend_from_slice(b"end\t")?;
+        self.written.listed = Ok(false);
+        close(&mut self.matcher, name, &mut self.written);
+        self.written.end_list()
     }
 
     /// What is written, and how the run ends.
@@ -213,7 +220,7 @@ impl ScriptRun {
         } else {
             Status::Good
         };
-        (self.text, status)
+        (self.written.text, status)
     }
 }
 
@@ -271,15 +278,15 @@ fn new_matcher(
 #[inline(always)]
 fn answer_start(
     matcher: &mut Matcher,
-    line: StartLine<'_>,
+    line: &StartLine<'_>,
     outlines: &AttributeBuffer,
 ) -> Result<Outcome, MatcherError>
-    requires outlines { AreOutlinesOf line.attributes outlines.now.items }
+    requires outlines { AreOutlinesOf line.now.attributes outlines.now.items }
     requires going { matcher.old.failed ≡ false }
     ensures started { IfOk result (λ outcome.
-        IsStarted outcome (told_tag (start_tag_of line.entry)) matcher.old matcher.new) }
+        IsStarted outcome (told_tag (start_tag_of line.now)) matcher.old matcher.new) }
     ensures stopped { IfErr result (λ error. (cause : Cause) → IsCauseOf error cause
-        → IsStopped cause (told_tag (start_tag_of line.entry)) matcher.old matcher.new) }
+        → IsStopped cause (told_tag (start_tag_of line.now)) matcher.old matcher.new) }
 {
     if line.finish {
         return match matcher.start_with(line.name, line.ns, handed_over(line, outlines)) {
@@ -295,14 +302,14 @@ fn answer_start(
 }
 
 /// Tells a matcher of an end tag, and lists the numbers of the elements that it closes.
-fn close(matcher: &mut Matcher, name: &[u8], list: &mut ClosedList)
+fn close(matcher: &mut Matcher, name: &[u8], list: &mut Written)
     ensures ended { matcher.new ≡ with_ended matcher.old name.now }
-    ensures listed { (before : List ℕ) → HasListed before [] list.old
-        → HasListed before (numbers_closed matcher.old.open_elements name.now) list.new }
+    ensures listed { (before : List ℕ) → IsListing before [] list.old
+        → IsListing before (numbers_closed matcher.old.open_elements name.now) list.new }
 {
     let mut handler = |element: OpenElement<()>|
-        ensures { (before numbers : List ℕ) → HasListed before numbers list.entry.now
-            → HasListed before (numbers ++ element.number ∷ []) list.exit.now }
+        ensures { (before numbers : List ℕ) → IsListing before numbers list.entry.now
+            → IsListing before (numbers ++ element.number ∷ []) list.exit.now }
     {
         list.push(element.number);
     };

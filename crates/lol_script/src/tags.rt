@@ -82,12 +82,12 @@ pub fn cut_attributes(
 /// The attributes of a start line, as they are handed over.
 #[inline(always)]
 pub fn handed_over<'l: 't, 't>(
-    line: StartLine<'l>,
+    line: &StartLine<'l>,
     outlines: &'t AttributeBuffer,
 ) -> AuxStartTagInfo<'t>
-    requires { AreOutlinesOf line.attributes outlines.now.items }
-    ensures handed { line.entry.finish ≡ true
-        → handed line.entry.name.now line.entry.ns result ≡ start_tag_of line.entry }
+    requires { AreOutlinesOf line.now.attributes outlines.now.items }
+    ensures handed { line.now.finish ≡ true
+        → handed line.now.name.now line.now.ns result ≡ start_tag_of line.now }
     ensures inside { RangesAreInside result }
 {
     AuxStartTagInfo {

@@ -9,7 +9,7 @@ use Rattle.lol_script.proofs.script_run.answer_start.Goals as goal
 
 pub returns-in-Ok-clause-started : goal.returns-in-Ok-clause-started
 returns-in-Ok-clause-started c =
-    let line = c.args.line in
+    let line = c.args.line.now in
     let tag = start_tag_of line in
     let finish : line.finish ≡ true = search rules in
     let going : c.args.matcher.now.failed ≡ false = search rules in

@@ -10,4 +10,4 @@ returns c = λ s answers.
       | then-has_failed w ↦ ap status_of w.if-has_failed.true ∙ sym w.status-is
       | else-has_failed w ↦ ap status_of w.if-has_failed.false ∙ sym w.status-is
     ] in
-    written_whole c.args.self s answers ∙ ap (λ (status : Status). record { text = c.args.self.text.items; status = status }) status
+    written_whole c.args.self s answers ∙ ap (λ (status : Status). record { text = c.args.self.written.text.items; status = status }) status

@@ -19,7 +19,7 @@ returns-in-None-clause-text c = on_ok_weaker c.push_started.result
     let old = c.args.self.now in
     let m = old.matcher in
     let line = line_is m old.shows_tries c.args.asked c.shown_tries-tries.result c.shown_tries-tries.ensures (map match_of m.matched) in
-    let written = text ∙ ((λ i. old.text.items ++ (started_text (map (λ (info : MatchInfo). match_of info) (c.matches.ensures.matched i)) c.args.asked c.shown_tries-tries.result ++ 10 ∷ []))
-    ∙ ((λ i. old.text.items ++ (line i ++ 10 ∷ [])) ∙ sym (ap (λ (l : List ℕ). old.text.items ++ l) (append-nil _)))) in
-    subst (λ (o : Option Explained). IsReasoned m old.shows_tries c.args.asked old.text.items c.push_started.new.text.items o o) (sym c.in-None.is) (refl, written))
+    let written = text ∙ ((λ i. old.written.text.items ++ (started_text (map (λ (info : MatchInfo). match_of info) (c.matches.ensures.matched i)) c.args.asked c.shown_tries-tries.result ++ 10 ∷ []))
+    ∙ ((λ i. old.written.text.items ++ (line i ++ 10 ∷ [])) ∙ sym (ap (λ (l : List ℕ). old.written.text.items ++ l) (append-nil _)))) in
+    subst (λ (o : Option Explained). IsReasoned m old.shows_tries c.args.asked old.written.text.items c.push_started.new.text.items o o) (sym c.in-None.is) (refl, written))
     c.push_started.ensures
