@@ -12,7 +12,6 @@ use std::alloc::AllocError;
 pub enum Cause {
     /// It has none of the forms of a line, or stands where it can't.
     Form,
-
     /// Its text is no selector.
     Selector(SelectorError),
 }

@@ -10,14 +10,10 @@ use thiserror::Error;
 /// Why a run failed.
 #[derive(Debug, Clone, Copy, PartialEq, Eq, Error)]
 pub enum RunFault {
-    /// An allocation failed.
     #[error("out of memory")]
     Memory,
-
-    /// A read failed.
     #[error("read failed")]
     Read,
-
     /// A write failed, or took no bytes.
     #[error("write failed")]
     Write,
@@ -42,7 +38,6 @@ impl<D> Counted<D> {
         }
     }
 
-    /// How many calls failed.
     pub fn failures(&self) -> u64
         ensures { result ≡ failures_of self.now }
     {

@@ -19,10 +19,8 @@ use std::alloc::{AllocError, Global};
 #[derive(Drop)]
 pub struct Explained {
     explainer: Explainer,
-
     /// The number of each text's line.
     lines: Vec<u128>,
-
     /// What the last start tag was reported under, by the ids of the texts.
     ids: Vec<MatchId>,
 }
@@ -74,7 +72,6 @@ impl Explained {
     }
 }
 
-/// Adds the lines of reasons, by the numbers of the lines of texts.
 fn push_reasons(text: &mut Vec<u8>, lines: &[u128], reasons: &[Reason]) -> Result<(), AllocError>
     ensures { OnOk result (text.new.items ≡ text.old.items
         ++ lines_of (lines_by lines.now (map reason_shown reasons.now))) }

@@ -21,17 +21,12 @@ const CHUNK_LEN: usize = 65536;
 #[derive(Drop)]
 pub struct LineReader {
     bytes: Vec<u8>,
-
     /// Where a read puts its bytes. It has its length with the first read.
     chunk: Vec<u8>,
-
     /// A byte for each read. A reader that never ends is out of memory once this can't grow, and until then its lines can be counted.
     reads: Vec<u8>,
-
-    // The line.
     start: usize,
     end: usize,
-
     /// Where the next line starts, as far as it was read.
     next: usize,
     number: u128,
@@ -56,7 +51,6 @@ impl Model for LineReader {
 }
 
 impl LineReader {
-    /// Before the first line.
     pub fn new(alloc: Global) -> Self
         ensures { result ≡ no_lines }
     {
@@ -86,7 +80,6 @@ impl LineReader {
         self.number
     }
 
-    /// Whether the line is the last.
     pub fn is_last(&self) -> bool
         ensures { result ≡ self.now.is_last }
     {
@@ -94,9 +87,6 @@ impl LineReader {
     }
 
     /// Goes to the next line, after which comes another if LF ends it. After the last line comes an empty one, which is the last again.
-    ///
-    /// # Errors
-    /// `Read` where a read failed, an interrupted one too; `Memory` where memory was refused.
     #[inline(always)]
     pub fn advance<R: Read>(&mut self, reader: &mut Counted<R>) -> Result<(), RunFault>
         requires { failures_of reader.old < u64.MAX }
@@ -153,9 +143,6 @@ impl LineReader {
     }
 
     /// Reads to the end, and forgets what is read.
-    ///
-    /// # Errors
-    /// `Read` where a read failed; `Memory` where memory was refused.
     pub fn read_to_end<R: Read>(&mut self, reader: &mut Counted<R>) -> Result<(), RunFault>
         requires { failures_of reader.old < u64.MAX }
         ensures end { OnOk result ((more : List ℕ)
@@ -179,7 +166,6 @@ fn line_feed_offset(bytes: &[u8]) -> Option<usize>
     }
 }
 
-/// Forgets the first bytes.
 fn forget_first(bytes: &mut Vec<u8>, count: usize)
     requires { count ≤ length bytes.old.items }
     ensures { bytes.new.items ≡ drop count bytes.old.items }
@@ -250,7 +236,6 @@ fn read_to_line_feed<R: Read>(
     }
 }
 
-/// Reads to the end, and forgets what is read.
 #[inline(never)]
 fn read_rest<R: Read>(
     chunk: &mut Vec<u8>,

@@ -19,33 +19,19 @@ use std::alloc::AllocError;
 pub enum Line<'s> {
     /// What holds for all tags; it stands before the first tag line.
     Setting(Setting<'s>),
-
-    /// A start tag.
     Start(StartLine<'s>),
-
-    /// An end tag.
     End { name: &'s [u8] },
 }
 
 /// A line before the first tag line.
 #[derive(Clone, Copy, Debug, PartialEq, Eq)]
 pub enum Setting<'s> {
-    /// The greatest usage, in bytes.
     Limit { maximum: u64 },
-
-    /// The names of ESI are void.
     Esi,
-
-    /// Tries are shown.
     Tries,
-
-    /// Reasons are shown.
     Explain,
-
     /// The machine is made with rows if it has so many nodes or more.
     Rows { fewest: u64 },
-
-    /// A selector, and the id that it is added under.
     Select { id: u32, text: &'s str },
 }
 
@@ -55,10 +41,8 @@ pub struct StartLine<'s> {
     pub name: &'s [u8],
     pub ns: Namespace,
     pub self_closing: bool,
-
     /// The attributes, separated by TAB.
     pub attributes: Option<&'s [u8]>,
-
     /// Whether the attributes are handed over where they are asked for.
     pub finish: bool,
 }
@@ -126,7 +110,6 @@ fn number(digits: &[u8]) -> Option<u64>
     Some(value)
 }
 
-/// The number of an id.
 fn id_of(digits: &[u8]) -> Option<u32>
     ensures { result ≡ number_up_to 4294967295 digits.now }
 {
@@ -248,9 +231,6 @@ fn namespaced(rest: &[u8]) -> Option<((Namespace, bool), &[u8])>
 }
 
 /// A start tag, by what follows the kind of its line. Its attributes are cut into the outlines.
-///
-/// # Errors
-/// Out of memory.
 #[inline(always)]
 pub fn start_of<'s>(
     rest: &'s [u8],
@@ -346,9 +326,6 @@ pub fn other_line<'s>(
 }
 
 /// What a line says, or nothing where it has none of the forms. The attributes of a start tag are cut into the outlines.
-///
-/// # Errors
-/// `AllocError`, out of memory.
 pub fn line_of<'s>(
     bytes: &'s [u8],
     outlines: &mut AttributeBuffer,

@@ -81,7 +81,6 @@ fn push_id(text: &mut Vec<u8>, id: MatchId, with_content: bool) -> Result<(), Al
 }
 
 impl Written {
-    /// Nothing.
     pub fn new(alloc: Global) -> Self
         ensures { result.text.items ≡ [] }
     {
@@ -173,7 +172,6 @@ fn two_digits(number: u64) -> [u8; 2]
     [b'0' + (number / 10) as u8, b'0' + (number % 10) as u8]
 }
 
-/// Adds the number of a line.
 pub fn push_line_number(text: &mut Vec<u8>, number: u128) -> Result<(), AllocError>
     ensures { OnOk result (text.new.items ≡ text.old.items ++ decimal number) }
 {
@@ -184,7 +182,6 @@ pub fn push_line_number(text: &mut Vec<u8>, number: u128) -> Result<(), AllocErr
     text.extend_from_slice(buffer.format(number).as_bytes())
 }
 
-/// Adds the field of the tries.
 fn push_tries(text: &mut Vec<u8>, tries: Tries) -> Result<(), AllocError>
     ensures { OnOk result (text.new.items
         ≡ text.old.items ++ tries_field true (names_counted tries) (attributes_counted tries)) }
@@ -195,7 +192,6 @@ fn push_tries(text: &mut Vec<u8>, tries: Tries) -> Result<(), AllocError>
     push_number(text, tries.attributes())
 }
 
-/// Adds a line.
 pub fn push_line(text: &mut Vec<u8>, line: &[u8]) -> Result<(), AllocError>
     ensures { OnOk result (text.new.items ≡ text.old.items ++ (line.now ++ line_feed ∷ [])) }
 {
@@ -204,7 +200,6 @@ pub fn push_line(text: &mut Vec<u8>, line: &[u8]) -> Result<(), AllocError>
     Ok(())
 }
 
-/// Adds the line of a start tag that was reported under these.
 pub fn push_started(
     text: &mut Vec<u8>,
     matches: &[MatchInfo],

@@ -24,10 +24,8 @@ use std::io::{Read, Write};
 pub enum Status {
     /// Each line was good, and each tag was answered.
     Good,
-
     /// A line was bad.
     BadLine,
-
     /// A tag was refused.
     Refused,
 }
@@ -63,9 +61,6 @@ pub fn run<R: Read, W: Write>(
 
 /// As `run`, and where a text of a `select` line is refused, `message` gets the line's number and what people are told of it
 /// (`ErrorMessage`), as far as memory isn't refused for that.
-///
-/// # Errors
-/// As `run`.
 pub fn run_with_message<R: Read, W: Write>(
     alloc: Global,
     reader: &mut Counted<R>,

@@ -37,13 +37,8 @@ pub struct ScriptRun {
     alloc: Global,
     matcher: Matcher,
     shows_tries: bool,
-
-    /// What explains the reports, if reasons are shown.
     explained: Option<Explained>,
-
-    /// What is written, the refusal too.
     written: Written,
-
     /// The attributes of a tag's line.
     outlines: AttributeBuffer,
 }
@@ -53,7 +48,6 @@ pub struct ScriptRun {
 enum Outcome {
     /// Its attributes were asked for, and aren't handed over.
     Dropped,
-
     /// It was reported: whether its attributes were asked for.
     Reported { asked: bool },
 }
@@ -236,7 +230,6 @@ fn in_memory(taken: Result<(), AllocError>) -> Result<(), Stop>
     }
 }
 
-/// A matcher of a tree's selectors.
 fn matcher_of(alloc: Global, ast: Ast, limit: u64, esi: bool) -> Result<Matcher, AllocError>
     ensures { IfOk result (IsNewMatcher ast limit esi) }
 {

@@ -43,7 +43,6 @@ impl SelectLines {
         }
     }
 
-    /// Adds a line.
     pub fn push(&mut self, number: u128, id: u32, text: &str) -> Result<(), AllocError>
         ensures { OnOk result ((kept : List lines.KeptLine) → HoldsKept self.old kept
             → HoldsKept self.new (kept ++ record { number = number; id = id; text = text.now } ∷ [])) }
@@ -57,7 +56,6 @@ impl SelectLines {
         Ok(())
     }
 
-    /// The numbers of the lines.
     pub fn numbers(&self, alloc: Global) -> Result<Vec<u128>, AllocError>
         ensures { IfOk result (λ numbers. numbers.items ≡ map (λ line. line.number) self.now.lines.items) }
     {

@@ -30,19 +30,12 @@ use std::io::Read;
 pub struct Settings {
     /// The greatest usage, in bytes.
     pub limit: u64,
-
-    /// Whether the names of ESI are void.
     pub esi: bool,
-
     pub shows_tries: bool,
-
-    /// Whether reasons are shown.
     pub explains: bool,
-
     /// From how many nodes on the machine is made with rows, if any are asked for. The tree is without them.
     pub rows_from: Option<u64>,
     pub ast: Ast,
-
     /// The lines of the selectors. They are read again if reasons are shown.
     pub selects: SelectLines,
 }
@@ -50,10 +43,7 @@ pub struct Settings {
 /// Why the reading of a script stops.
 #[derive(Clone, Copy, Debug, PartialEq, Eq)]
 pub enum Stop {
-    /// A read failed, or memory was refused.
     Fault(RunFault),
-
-    /// A line is bad.
     Bad(BadLine),
 }
 
@@ -150,7 +140,6 @@ pub fn malformed(number: u128) -> Stop
     })
 }
 
-/// Adds the selectors of a text.
 fn take_selector(
     alloc: Global,
     ast: &mut Ast,

@@ -60,7 +60,6 @@ fn fill_outlines(outlines: &mut AttributeBuffer, text: &[u8]) -> Result<bool, Al
     Ok(named)
 }
 
-/// Writes the outlines of a line's attributes over those that are there. Returns whether each has a name.
 #[inline(always)]
 pub fn cut_attributes(
     attributes: Option<&[u8]>,
