@@ -24,12 +24,12 @@ class Found(NamedTuple):
 
 
 def is_askable(text: str) -> bool:
-    """Whether a selector can have it: neither NUL nor bytes that aren't UTF-8."""
+    """Whether a selector can have it, neither NUL nor bytes that aren't UTF-8, and all parsers tell it as it is written, which CR isn't."""
     try:
         text.encode("latin-1").decode()
     except UnicodeError:
         return False
-    return "\0" not in text
+    return "\0" not in text and "\r" not in text
 
 
 def identifier(text: str) -> str:
