@@ -41,14 +41,14 @@ class SourceFault(NamedTuple):
     edits: list
 
 
-STACK, VM = "lol_stack/src/stack.rt", "lol_vm/src/vm.rt"
+STACK, VM = "lol_stack/src/stack.rt", "lol_machine/src/vm.rt"
 CONTEXT = "lol_stack/src/execution_ctx.rt"
 
 NO_FAULT = SourceFault("no fault", "", [])
 
 # lol_match drops each request that exec_for_start_tag makes; the counters by type stay as they are.
 SOURCE_FAULTS = [
-    SourceFault("a dropped start tag isn't counted", "lol_vm: exec_for_start_tag", [
+    SourceFault("a dropped start tag isn't counted", "lol_machine: exec_for_start_tag", [
         Edit(VM, "            return self.request(ctx, point);",
              "            self.stack.uncount_child();\n            return self.request(ctx, point);"),
         Edit(STACK, "    /// Counts one more child of the last open element, or of the root.\n",
@@ -78,14 +78,15 @@ SOURCE_FAULTS = [
              "            enable_esi_tags,\n            again,\n        } = self;"),
         Edit(CONTEXT, "stack_item: stack_item.into_owned(alloc)?,",
              "again,\n            stack_item: stack_item.into_owned(alloc)?,"),
-        Edit(CONTEXT, "        if let Err(error) = self.stack_item.add_ids(",
+        Edit(CONTEXT, "        let item = &mut self.stack_item;\n        if self.with_content {",
+             "        let item = &mut self.stack_item;\n"
              "        for id in branch.matched_ids.iter() {\n"
-             "            let held = self.stack_item.element_data.matched_ids_mut();\n"
+             "            let held = item.element_data.matched_ids_mut();\n"
              "            if held.iter().any(|other| other == id) {\n"
              "                self.again.insert(id)?;\n"
              "            }\n"
              "        }\n"
-             "        if let Err(error) = self.stack_item.add_ids("),
+             "        if self.with_content {"),
         Edit(CONTEXT, "    for match_id in ids.iter() {\n",
              "    for match_id in ids.iter() {\n"
              "        if again.iter().any(|other| other == match_id) {\n"
