@@ -90,15 +90,6 @@ fn other_forms(rt: HostRuntime) -> Result<(), Fail> {
             b"2:1: 1,3\n4:25: 2\n4:29: 3\n"
         )
     );
-    assert!(rt;
-        is_written(
-            alloc,
-            Output::Names,
-            Some(String::from_str(alloc, "p")?),
-            &["a[title],\nb", "br", "[href]"],
-            b"p:2:1: a[title], b\np:2:1: [href]\np:4:25: br\np:4:29: [href]\n"
-        )
-    );
     assert!(rt; is_written(alloc, Output::Count, None, &["a"], b"2\n"));
     assert!(rt;
         is_written(
@@ -125,6 +116,21 @@ fn other_forms(rt: HostRuntime) -> Result<(), Fail> {
             Some(String::from_str(alloc, "a\"\\")?),
             &["[title]", "main > a"],
             b"{\"page\":\"a\\\"\\\\\",\"line\":2,\"column\":1,\"offset\":13,\"length\":28,\"selectors\":[1,2],\"tag\":\"<A title='1\\u000d\\u000a\\\"2\\\"' HREF=\\\"x\xef\xbf\xbd\\\">\"}\n"
+        )
+    );
+    Ok(())
+}
+
+#[test]
+fn names(rt: HostRuntime) -> Result<(), Fail> {
+    let alloc = rt.alloc();
+    assert!(rt;
+        is_written(
+            alloc,
+            Output::Names,
+            Some(String::from_str(alloc, "p")?),
+            &["a[title],\nb", "br", "[href]"],
+            b"p:2:1: a[title], b\np:2:1: [href]\np:4:25: br\np:4:29: [href]\n"
         )
     );
     Ok(())
